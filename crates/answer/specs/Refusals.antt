@@ -1,0 +1,38 @@
+-- 01, "Numbers a caller can meet": each refusal's number, named once.
+use Prim.Native.Nat.{ℕ}
+
+-- an argument has a size it may not have
+abbrev pub size : ℕ
+size = 1
+
+-- no keys
+abbrev pub no-keys : ℕ
+no-keys = 2
+
+-- key list not a multiple of 20 octets
+abbrev pub ragged : ℕ
+ragged = 3
+
+-- over 3,000 keys
+abbrev pub too-many : ℕ
+too-many = 4
+
+-- not strictly ascending
+abbrev pub not-ascending : ℕ
+not-ascending = 5
+
+-- output too short
+abbrev pub too-short : ℕ
+too-short = 6
+
+-- first or second line
+abbrev pub head : ℕ
+head = 12
+
+-- not a code
+abbrev pub not-a-code : ℕ
+not-a-code = 13
+
+-- lines and count disagree, or no LF
+abbrev pub lines : ℕ
+lines = 14

@@ -1,0 +1,38 @@
+// The answers that a caller can meet, and the number that stands for one where a plain number must do.
+ghost use mathlib.Core.Path.{_≡_};
+ghost use Rattle.answer.specs.Answer.{packed};
+
+// 01, "Numbers a caller can meet": the refusals by name.
+pub const SIZE: u16 = 1;
+
+pub const NO_KEYS: u16 = 2;
+
+pub const RAGGED: u16 = 3;
+
+pub const TOO_MANY: u16 = 4;
+
+pub const NOT_ASCENDING: u16 = 5;
+
+pub const TOO_SHORT: u16 = 6;
+
+pub const HEAD: u16 = 12;
+
+pub const NOT_A_CODE: u16 = 13;
+
+pub const LINES: u16 = 14;
+
+// Done with what the function counts, or refused with the number and the place of document 01.
+pub enum Answer {
+    Done(u32),
+    Refused { number: u16, place: u32 },
+}
+
+// The answer as one number, for callers in other languages.
+pub fn pack(a: Answer) -> u64
+    ensures { λ r. ⌜ r ≡ packed a ⌝ }
+{
+    match a {
+        Answer::Done(n) => n as u64,
+        Answer::Refused { number, place } => number as u64 * 281474976710656 + (place as u64),
+    }
+}

@@ -1,0 +1,3 @@
+pub mod Order
+pub mod Compared
+pub mod Put
