@@ -1,0 +1,6 @@
+mod Tests
+pub mod CodeLaws
+pub mod CountLaws
+pub mod TextLaws
+pub mod AcceptedLaws
+mod WriteLaws
