@@ -4,3 +4,5 @@ pub mod CountLaws
 pub mod TextLaws
 pub mod AcceptedLaws
 mod WriteLaws
+mod DecimalLaws
+pub mod NothingSkipped

@@ -77,7 +77,7 @@ code-parts s e =
     let w = within-true 1 20 (length s) (h .0) in
     record { some-octets = w .0; few = w .1; characters = k .0 }
 
-zero-no-character : character 0 ≡ false
+pub zero-no-character : character 0 ≡ false
 unfolding character digit letter within hyphen
 zero-no-character = refl
 
