@@ -16,7 +16,8 @@ use Rattle.octets.proofs.OrderLaws.{same-true, same-refl}
 use Rattle.codes.specs.Code.{within, all, digit, letter, hyphen, character, is-code, key-of}
 use Rattle.codes.specs.Count.{is-count, number}
 use Rattle.codes.specs.Text.{Reading, accepted, refused, before-LF, ended, line, rest, above, fault, more, codes, counted, second-line, opening, reading}
-use Rattle.codes.specs.Writing.{decimal, code-lines, text-of, code-of, all-codes, ascending, Listing, Whole, Nothing-skipped, Nothing-refused}
+use Rattle.show.specs.Decimal.{decimal}
+use Rattle.codes.specs.Writing.{code-lines, text-of, code-of, all-codes, ascending, Listing, Whole, Nothing-skipped, Nothing-refused}
 use Rattle.codes.proofs.Tests.{both, held}
 use Rattle.codes.proofs.CountLaws.{count-parts, Count}
 use Rattle.codes.proofs.DecimalLaws.{decimal-number, decimal-counts, Counts}

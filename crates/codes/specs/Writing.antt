@@ -3,26 +3,13 @@ use mathlib.Core.Path.{_≡_}
 use mathlib.Core.Bool.{Bool, true, cond, _&&_}
 use mathlib.Core.List.{List, [], _∷_, _++_, map}
 use mathlib.Core.Option.{Option, none, some}
-use Prim.Native.Nat.{ℕ, zero, suc, _+_, _*_, _/_, _%_, _≤_}
-use lib.Dec.{ltb, eqb}
+use Prim.Native.Nat.{ℕ, _*_, _≤_}
+use lib.Dec.{eqb}
 use lib.ListN.{length}
 use Rattle.octets.specs.Order.{Octets}
+use Rattle.show.specs.Decimal.{decimal}
 use Rattle.codes.specs.Code.{is-code, key-of}
 use Rattle.codes.specs.Text.{accepted, above, opening, reading}
-
--- the last n digits of a number, in ASCII
-unfoldable pub digits : ℕ → ℕ → Octets
-digits zero n = []
-digits (suc d) n = digits d (n / 10) ++ ((48 + n % 10) ∷ [])
-
--- a number below 100,000 in decimal, without leading zeros
-unfoldable pub decimal : ℕ → Octets
-decimal n =
-    cond (ltb n 10) (digits 1 n)
-    (cond (ltb n 100) (digits 2 n)
-    (cond (ltb n 1000) (digits 3 n)
-    (cond (ltb n 10000) (digits 4 n)
-    (digits 5 n))))
 
 -- one code a line
 unfoldable pub code-lines : List Octets → Octets
