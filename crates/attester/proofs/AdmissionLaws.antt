@@ -5,32 +5,37 @@ use mathlib.Core.Bool.{Bool, true, false, cond}
 use mathlib.Core.List.{List, [], _∷_, flatten}
 use mathlib.Core.Option.{Option, none, some}
 use Prim.Native.Nat.{ℕ, zero, suc, _*_, _/_, _%_, _≤_, _<_, Ordering, Ordering·lt, Ordering·eq, Ordering·gt}
-use native.Mathlib.Nat.{mul-pos, mul-mod-left, mul-div-left, div-add-mod'}
+use native.Mathlib.Nat.{not-suc-le-zero, mul-pos, mul-mod-left, mul-div-left, div-add-mod'}
 use native.Mathlib.Omega.{arith}
 use borrow.Author.Tests.{ltb-false, eqb-false, lt-ltb, le-ltb, ne-eqb}
 use lib.Dec.{eqb, ltb}
-use lib.ListN.{length}
+use lib.ListN.{length, drop, getD, drop-of-length-le}
+use lib.Seq.{drop-cons}
 use Rattle.answer.specs.Refusals.{no-keys, ragged, too-many}
 use Rattle.octets.specs.Order.{Octets, order}
 use Rattle.attester.specs.Entry.{key, entries}
 use Rattle.attester.specs.Listing.{Ascending, Listing}
-use Rattle.attester.specs.Admission.{admitted, refused, misplaced-here, misplaced-after, misplaced, sound, admit}
+use Rattle.attester.specs.Admission.{admitted, refused, is-less, misplaced-after, misplaced, sound, admit}
 use Rattle.attester.proofs.EntryLaws.{entries-length, entries-sized, entries-whole, entries-flatten, flatten-length}
 use Rattle.attester.proofs.ListingLaws.{ascending-cons}
 
 -- Nothing misplaced
 
-here-none : (o : Ordering) (i : ℕ) (later : Option ℕ) → misplaced-here o i later ≡ none → (o ≡ Ordering·lt) × (later ≡ none)
-here-none Ordering·lt i later e = (refl, e)
-here-none Ordering·eq i later e = (cc, cc)
-here-none Ordering·gt i later e = (cc, cc)
+is-less-true : (o : Ordering) → is-less o ≡ true → o ≡ Ordering·lt
+is-less-true Ordering·lt e = refl
+is-less-true Ordering·eq e = cc
+is-less-true Ordering·gt e = cc
+
+cond-none : (b : Bool) (o : Option ℕ) (i : ℕ) → cond b o (some i) ≡ none → (b ≡ true) × (o ≡ none)
+cond-none true o i e = (refl, e)
+cond-none false o i e = (cc, cc)
 
 after-ascending : (e : Octets) (i : ℕ) (es : List Octets) → misplaced-after e i es ≡ none → Ascending (e ∷ es)
 unfolding misplaced-after
 after-ascending e i [] h = (tt, tt)
 after-ascending e i (f ∷ es) h =
-    let n = here-none (order (key e) (key f)) i (misplaced-after f (suc i) es) h in
-    ascending-cons e f es (n .0) (after-ascending f (suc i) es (n .1))
+    let n = cond-none (is-less (order (key e) (key f))) (misplaced-after f (suc i) es) i h in
+    ascending-cons e f es (is-less-true (order (key e) (key f)) (n .0)) (after-ascending f (suc i) es (n .1))
 
 pub misplaced-ascending : (es : List Octets) → misplaced es ≡ none → Ascending es
 unfolding misplaced
@@ -46,6 +51,27 @@ pub ascending-misplaced : (es : List Octets) → Ascending es → misplaced es �
 unfolding misplaced
 ascending-misplaced [] h = refl
 ascending-misplaced (e ∷ es) h = ascending-after e 1 es h
+
+-- By the index: of the entries from index i on, and the one before them, the first misplaced is the whole list's
+
+pub misplaced-start : (es : List Octets) → 0 < length es → misplaced es ≡ misplaced-after (getD es 0 []) 1 (drop 1 es)
+unfolding misplaced
+misplaced-start [] h = absurd (not-suc-le-zero h)
+misplaced-start (e ∷ es) h = refl
+
+pub misplaced-end : (es : List Octets) (e : Octets) (i : ℕ) → length es ≤ i → misplaced-after e i (drop i es) ≡ none
+unfolding misplaced-after
+misplaced-end es e i h = rw (drop-of-length-le es h)
+
+module _ (es : List Octets) (e : Octets) (i : ℕ) (h : i < length es) where
+  pub misplaced-turn : is-less (order (key e) (key (getD es i []))) ≡ true
+      → misplaced-after e i (drop i es) ≡ misplaced-after (getD es i []) (suc i) (drop (suc i) es)
+  unfolding misplaced-after
+  misplaced-turn t = rw (drop-cons es i [] h, t)
+
+  pub misplaced-stop : is-less (order (key e) (key (getD es i []))) ≡ false → misplaced-after e i (drop i es) ≡ some i
+  unfolding misplaced-after
+  misplaced-stop t = rw (drop-cons es i [] h, t)
 
 -- The four refusals, and what is left
 
@@ -71,9 +97,11 @@ module _ (w most : ℕ) (s : Octets) where
 
 -- What is admitted
 
+-- es is an accepted list, and it is all of the octets s, w at a time
 pub record Admitted (w most : ℕ) (s : Octets) (es : List Octets) : Type 0 where
   pub listing : Listing w most es
   pub whole : flatten es ≡ s
+  pub parts : es ≡ entries w (length s / w) s
 
 sound-admitted : (o : Option ℕ) (es fs : List Octets) → sound o es ≡ admitted fs → (o ≡ none) × (es ≡ fs)
 unfolding sound
@@ -110,6 +138,7 @@ admit-admitted w most s es h =
             ascending = misplaced-ascending all (f .0);
           };
           whole = entries-whole w (length s / w) s m;
+          parts = refl;
         })
 
 pub listing-admitted : (w most : ℕ) (es : List Octets) → 0 < w → Listing w most es → admit w most (flatten es) ≡ admitted es

@@ -1,5 +1,5 @@
 -- Admission of a key list: its entries, or refusal 2, 3, 4 or 5 (01, "Numbers a caller can meet").
-use mathlib.Core.Bool.{cond}
+use mathlib.Core.Bool.{Bool, true, false, cond}
 use mathlib.Core.List.{List, [], _∷_}
 use mathlib.Core.Option.{Option, none, some}
 use Prim.Native.Nat.{ℕ, suc, _/_, _%_, Ordering, Ordering·lt, Ordering·eq, Ordering·gt}
@@ -14,16 +14,16 @@ pub data Admission : Type 0 where
   admitted : List Octets → Admission
   refused : ℕ → ℕ → Admission
 
--- where the key before is less, what comes later decides; else the entry at index i is misplaced
-abbrev pub misplaced-here : Ordering → ℕ → Option ℕ → Option ℕ
-misplaced-here Ordering·lt i later = later
-misplaced-here Ordering·eq i later = some i
-misplaced-here Ordering·gt i later = some i
+-- the first is less than the second
+abbrev pub is-less : Ordering → Bool
+is-less Ordering·lt = true
+is-less Ordering·eq = false
+is-less Ordering·gt = false
 
 -- the index of the first key not above the one before; e stands before index i, where es begins
 unfoldable pub misplaced-after : Octets → ℕ → List Octets → Option ℕ
 misplaced-after e i [] = none
-misplaced-after e i (f ∷ es) = misplaced-here (order (key e) (key f)) i (misplaced-after f (suc i) es)
+misplaced-after e i (f ∷ es) = cond (is-less (order (key e) (key f))) (misplaced-after f (suc i) es) (some i)
 
 -- 01, number 5: the "index, from 0, of the first key not above the one before"
 unfoldable pub misplaced : List Octets → Option ℕ
