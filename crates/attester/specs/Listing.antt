@@ -15,12 +15,12 @@ abbrev pub Each : (Octets → Type 0) → List Octets → Type 0
 Each P [] = Unit {0}
 Each P (e ∷ es) = P e × Each P es
 
--- each entry is below all that follow it
+-- 01: "strictly ascending": each entry is below all that follow it
 abbrev pub Ascending : List Octets → Type 0
 Ascending [] = Unit {0}
 Ascending (e ∷ es) = Each (Below e) es × Ascending es
 
--- 1 to `most` entries of w octets, their keys strictly ascending
+-- 01: 1 to `most` entries of w octets, their keys strictly ascending
 pub record Listing (w most : ℕ) (es : List Octets) : Type 0 where
   pub some-entry : 0 < length es
   pub few : length es ≤ most

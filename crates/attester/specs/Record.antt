@@ -1,13 +1,19 @@
 -- The node record (01, "Tree, node record, digest").
+use mathlib.Core.Path.{_≡_}
 use mathlib.Core.List.{_∷_, _++_}
 use mathlib.Core.Option.{Option, none, some}
 use Prim.Native.Nat.{ℕ, _+_, _*_}
-use lib.ListN.{replicate}
+use lib.ListN.{length, replicate}
 use Rattle.octets.specs.Order.{Octets}
 
 -- a child is known by its label, where there is a child
 abbrev pub Child : Type 0
 Child = Option Octets
+
+-- 01: a label has 32 octets
+abbrev pub Labelled : Child → Type 0
+Labelled none = Unit {0}
+Labelled (some l) = length l ≡ 32
 
 -- 1 if there is a child
 abbrev pub bit : Child → ℕ
