@@ -1,0 +1,152 @@
+-- What `admit` answers, case by case; that what it admits is an accepted list whose octets are all of the octets; and that
+-- the octets of every accepted list are admitted and give it back.
+use mathlib.Core.Path.{_≡_, refl, _∙_, subst}
+use mathlib.Core.Bool.{Bool, true, false, cond}
+use mathlib.Core.List.{List, [], _∷_, flatten}
+use mathlib.Core.Option.{Option, none, some}
+use Prim.Native.Nat.{ℕ, zero, suc, _*_, _/_, _%_, _≤_, _<_, Ordering, Ordering·lt, Ordering·eq, Ordering·gt}
+use native.Mathlib.Nat.{not-suc-le-zero, mul-pos, mul-mod-left, mul-div-left, div-add-mod'}
+use native.Mathlib.Omega.{arith}
+use borrow.Author.Tests.{ltb-false, eqb-false, lt-ltb, le-ltb, ne-eqb}
+use lib.Dec.{eqb, ltb}
+use lib.ListN.{length, drop, getD, drop-of-length-le}
+use lib.Seq.{drop-cons}
+use Rattle.answer.specs.Refusals.{no-keys, ragged, too-many}
+use Rattle.octets.specs.Order.{Octets, order}
+use Rattle.attester.specs.Entry.{key, entries}
+use Rattle.attester.specs.Listing.{Ascending, Listing}
+use Rattle.attester.specs.Admission.{admitted, refused, is-less, misplaced-after, misplaced, sound, admit}
+use Rattle.attester.proofs.EntryLaws.{entries-length, entries-sized, entries-whole, entries-flatten, flatten-length}
+use Rattle.attester.proofs.ListingLaws.{ascending-cons}
+
+-- Nothing misplaced
+
+is-less-true : (o : Ordering) → is-less o ≡ true → o ≡ Ordering·lt
+is-less-true Ordering·lt e = refl
+is-less-true Ordering·eq e = cc
+is-less-true Ordering·gt e = cc
+
+cond-none : (b : Bool) (o : Option ℕ) (i : ℕ) → cond b o (some i) ≡ none → (b ≡ true) × (o ≡ none)
+cond-none true o i e = (refl, e)
+cond-none false o i e = (cc, cc)
+
+after-ascending : (e : Octets) (i : ℕ) (es : List Octets) → misplaced-after e i es ≡ none → Ascending (e ∷ es)
+unfolding misplaced-after
+after-ascending e i [] h = (tt, tt)
+after-ascending e i (f ∷ es) h =
+    let n = cond-none (is-less (order (key e) (key f))) (misplaced-after f (suc i) es) i h in
+    ascending-cons e f es (is-less-true (order (key e) (key f)) (n .0)) (after-ascending f (suc i) es (n .1))
+
+pub misplaced-ascending : (es : List Octets) → misplaced es ≡ none → Ascending es
+unfolding misplaced
+misplaced-ascending [] h = tt
+misplaced-ascending (e ∷ es) h = after-ascending e 1 es h
+
+ascending-after : (e : Octets) (i : ℕ) (es : List Octets) → Ascending (e ∷ es) → misplaced-after e i es ≡ none
+unfolding misplaced-after
+ascending-after e i [] h = refl
+ascending-after e i (f ∷ es) h = rw (h .0 .0) (ascending-after f (suc i) es (h .1))
+
+pub ascending-misplaced : (es : List Octets) → Ascending es → misplaced es ≡ none
+unfolding misplaced
+ascending-misplaced [] h = refl
+ascending-misplaced (e ∷ es) h = ascending-after e 1 es h
+
+-- By the index: of the entries from index i on, and the one before them, the first misplaced is the whole list's
+
+pub misplaced-start : (es : List Octets) → 0 < length es → misplaced es ≡ misplaced-after (getD es 0 []) 1 (drop 1 es)
+unfolding misplaced
+misplaced-start [] h = absurd (not-suc-le-zero h)
+misplaced-start (e ∷ es) h = refl
+
+pub misplaced-end : (es : List Octets) (e : Octets) (i : ℕ) → length es ≤ i → misplaced-after e i (drop i es) ≡ none
+unfolding misplaced-after
+misplaced-end es e i h = rw (drop-of-length-le es h)
+
+module _ (es : List Octets) (e : Octets) (i : ℕ) (h : i < length es) where
+  pub misplaced-turn : is-less (order (key e) (key (getD es i []))) ≡ true
+      → misplaced-after e i (drop i es) ≡ misplaced-after (getD es i []) (suc i) (drop (suc i) es)
+  unfolding misplaced-after
+  misplaced-turn t = rw (drop-cons es i [] h, t)
+
+  pub misplaced-stop : is-less (order (key e) (key (getD es i []))) ≡ false → misplaced-after e i (drop i es) ≡ some i
+  unfolding misplaced-after
+  misplaced-stop t = rw (drop-cons es i [] h, t)
+
+-- The four refusals, and what is left
+
+module _ (w most : ℕ) (s : Octets) where
+  pub admit-no-keys : length s ≡ 0 → admit w most s ≡ refused no-keys 0
+  unfolding admit
+  admit-no-keys e = rw e
+
+  module _ (some-octet : 0 < length s) where
+    pub admit-ragged : 0 < length s % w → admit w most s ≡ refused ragged 0
+    unfolding admit
+    admit-ragged r = rw (ne-eqb (length s) 0 (λ e. omega arith), lt-ltb 0 (length s % w) r)
+
+    module _ (whole : length s % w ≡ 0) where
+      pub admit-too-many : most < length s / w → admit w most s ≡ refused too-many 0
+      unfolding admit
+      admit-too-many m = rw (ne-eqb (length s) 0 (λ e. omega arith), whole, lt-ltb most (length s / w) m)
+
+      pub admit-sound : length s / w ≤ most
+          → admit w most s ≡ sound (misplaced (entries w (length s / w) s)) (entries w (length s / w) s)
+      unfolding admit
+      admit-sound m = rw (ne-eqb (length s) 0 (λ e. omega arith), whole, le-ltb most (length s / w) m)
+
+-- What is admitted
+
+-- es is an accepted list, and it is all of the octets s, w at a time
+pub record Admitted (w most : ℕ) (s : Octets) (es : List Octets) : Type 0 where
+  pub listing : Listing w most es
+  pub whole : flatten es ≡ s
+  pub parts : es ≡ entries w (length s / w) s
+
+sound-admitted : (o : Option ℕ) (es fs : List Octets) → sound o es ≡ admitted fs → (o ≡ none) × (es ≡ fs)
+unfolding sound
+sound-admitted none es fs e = (refl, cc)
+sound-admitted (some i) es fs e = (cc, cc)
+
+quotient-positive : (n q w : ℕ) → n ≡ q * w → (n ≡ 0 → ⊥) → 0 < q
+quotient-positive n zero w e h = absurd (h (omega arith))
+quotient-positive n (suc q) w e h = omega arith
+
+pub admit-admitted : (w most : ℕ) (s : Octets) (es : List Octets) → admit w most s ≡ admitted es → Admitted w most s es
+unfolding admit
+admit-admitted w most s es h =
+    go (eqb (length s) 0) (ltb 0 (length s % w)) (ltb most (length s / w)) refl refl refl h
+  where
+    all : List Octets
+    all = entries w (length s / w) s
+
+    go : (a b c : Bool) → eqb (length s) 0 ≡ a → ltb 0 (length s % w) ≡ b → ltb most (length s / w) ≡ c
+        → cond a (refused no-keys 0) (cond b (refused ragged 0) (cond c (refused too-many 0) (sound (misplaced all) all))) ≡ admitted es
+        → Admitted w most s es
+    go true b c p q r e = let z : _≡_ {A = ℕ} 0 1 = cc in absurd (omega arith)
+    go false true c p q r e = let z : _≡_ {A = ℕ} 0 1 = cc in absurd (omega arith)
+    go false false true p q r e = let z : _≡_ {A = ℕ} 0 1 = cc in absurd (omega arith)
+    go false false false p q r e =
+        let f = sound-admitted (misplaced all) all es e in
+        let n : length all ≡ length s / w = entries-length w (length s / w) s in
+        let m : length s ≡ length s / w * w = omega (arith, div-add-mod' (length s) w, ltb-false 0 (length s % w) q) in
+        subst (Admitted w most s) (f .1) (record {
+          listing = record {
+            some-entry = rw n (quotient-positive (length s) (length s / w) w m (eqb-false (length s) 0 p));
+            few = rw n (ltb-false most (length s / w) r);
+            sized = entries-sized w (length s / w) s m;
+            ascending = misplaced-ascending all (f .0);
+          };
+          whole = entries-whole w (length s / w) s m;
+          parts = refl;
+        })
+
+pub listing-admitted : (w most : ℕ) (es : List Octets) → 0 < w → Listing w most es → admit w most (flatten es) ≡ admitted es
+unfolding sound
+listing-admitted w most es positive l =
+    let n : length (flatten es) ≡ length es * w = flatten-length w es (l .sized) in
+    let some-octet : 0 < length (flatten es) = rw n (mul-pos (l .some-entry) positive) in
+    let whole : length (flatten es) % w ≡ 0 = rw n (mul-mod-left (length es) w) in
+    let count : length (flatten es) / w ≡ length es = rw n (mul-div-left (length es) positive) in
+    admit-sound w most (flatten es) some-octet whole (rw count (l .few))
+    ∙ rw (count, entries-flatten w es (l .sized), ascending-misplaced es (l .ascending))

@@ -1,0 +1,1 @@
+// The attester's theory: definitions in specs/, their laws in proofs/. It has no code.

@@ -1,0 +1,7 @@
+mod WordLaws
+mod DigestLaws
+mod TurnLaws
+mod ScheduleLaws
+mod BlockLaws
+mod PaddingLaws
+pub mod HashLaws

@@ -1,0 +1,2 @@
+pub mod Fips180
+pub mod Hash

@@ -1,0 +1,3 @@
+mod AdmissionLaws
+mod LabelLaws
+pub mod DigestLaws

@@ -1,0 +1,30 @@
+-- The three cases of the comparison.
+use borrow.Author.Needs.{needs}
+use Rattle.tree.proofs.admission.below.Statement.{statement}
+use Rattle.tree.proofs.admission.below.Tie as tie
+
+compare-requires : tie.Need-compare-requires
+compare-requires c κs = search needs
+
+enum-told : tie.Need-enum-told
+enum-told c = search needs
+
+enum-told-2 : tie.Need-enum-told-2
+enum-told-2 c = search needs
+
+enum-told-3 : tie.Need-enum-told-3
+enum-told-3 c = search needs
+
+returns : tie.Need-returns
+returns c = rw (← c .before .before .compare .ensures, c .enum-told .given .1)
+
+returns-2 : tie.Need-returns-2
+returns-2 c = rw (← c .before .before .compare .ensures, c .enum-told2 .given .1)
+
+returns-3 : tie.Need-returns-3
+returns-3 c = rw (← c .before .before .compare .ensures, c .enum-told3 .given .1)
+
+pub below-spec : {M : Type 1} → statement M
+below-spec =
+    tie.close
+    (tie.spec compare-requires enum-told enum-told-2 enum-told-3 returns returns-2 returns-3)

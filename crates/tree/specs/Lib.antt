@@ -1,0 +1,4 @@
+pub mod Edition
+pub mod Labels
+pub mod Admitted
+pub mod Digest
