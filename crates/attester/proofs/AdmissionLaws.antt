@@ -4,7 +4,7 @@ use mathlib.Core.Path.{_≡_, refl, _∙_, subst}
 use mathlib.Core.Bool.{Bool, true, false, cond}
 use mathlib.Core.List.{List, [], _∷_, flatten}
 use mathlib.Core.Option.{Option, none, some}
-use Prim.Native.Nat.{ℕ, zero, suc, _*_, _/_, _%_, _≤_, _<_, Ordering, Ordering·lt, Ordering·eq, Ordering·gt}
+use Prim.Native.Nat.{ℕ, zero, suc, _*_, _/_, _%_, _≤_, _<_}
 use native.Mathlib.Nat.{not-suc-le-zero, mul-pos, mul-mod-left, mul-div-left, div-add-mod'}
 use native.Mathlib.Omega.{arith}
 use borrow.Author.Tests.{ltb-false, eqb-false, lt-ltb, le-ltb, ne-eqb}
@@ -12,19 +12,15 @@ use lib.Dec.{eqb, ltb}
 use lib.ListN.{length, drop, getD, drop-of-length-le}
 use lib.Seq.{drop-cons}
 use Rattle.answer.specs.Refusals.{no-keys, ragged, too-many}
-use Rattle.octets.specs.Order.{Octets, order}
+use Rattle.octets.specs.Order.{Octets, order, is-less}
+use Rattle.octets.proofs.OrderLaws.{is-less-true}
 use Rattle.attester.specs.Entry.{key, entries}
 use Rattle.attester.specs.Listing.{Ascending, Listing}
-use Rattle.attester.specs.Admission.{admitted, refused, is-less, misplaced-after, misplaced, sound, admit}
+use Rattle.attester.specs.Admission.{admitted, refused, misplaced-after, misplaced, sound, admit}
 use Rattle.attester.proofs.EntryLaws.{entries-length, entries-sized, entries-whole, entries-flatten, flatten-length}
 use Rattle.attester.proofs.ListingLaws.{ascending-cons}
 
 -- Nothing misplaced
-
-is-less-true : (o : Ordering) → is-less o ≡ true → o ≡ Ordering·lt
-is-less-true Ordering·lt e = refl
-is-less-true Ordering·eq e = cc
-is-less-true Ordering·gt e = cc
 
 cond-none : (b : Bool) (o : Option ℕ) (i : ℕ) → cond b o (some i) ≡ none → (b ≡ true) × (o ≡ none)
 cond-none true o i e = (refl, e)

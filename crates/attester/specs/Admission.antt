@@ -1,24 +1,18 @@
 -- Admission of a key list: its entries, or refusal 2, 3, 4 or 5 (01, "Numbers a caller can meet").
-use mathlib.Core.Bool.{Bool, true, false, cond}
+use mathlib.Core.Bool.{cond}
 use mathlib.Core.List.{List, [], _∷_}
 use mathlib.Core.Option.{Option, none, some}
-use Prim.Native.Nat.{ℕ, suc, _/_, _%_, Ordering, Ordering·lt, Ordering·eq, Ordering·gt}
+use Prim.Native.Nat.{ℕ, suc, _/_, _%_}
 use lib.Dec.{eqb, ltb}
 use lib.ListN.{length}
 use Rattle.answer.specs.Refusals.{no-keys, ragged, too-many, not-ascending}
-use Rattle.octets.specs.Order.{Octets, order}
+use Rattle.octets.specs.Order.{Octets, order, is-less}
 use Rattle.attester.specs.Entry.{key, entries}
 
 -- the entries, or the refusal's number and place
 pub data Admission : Type 0 where
   admitted : List Octets → Admission
   refused : ℕ → ℕ → Admission
-
--- the first is less than the second
-abbrev pub is-less : Ordering → Bool
-is-less Ordering·lt = true
-is-less Ordering·eq = false
-is-less Ordering·gt = false
 
 -- the index of the first key not above the one before; e stands before index i, where es begins
 unfoldable pub misplaced-after : Octets → ℕ → List Octets → Option ℕ

@@ -1,4 +1,4 @@
-mod Tests
+pub mod Tests
 pub mod CodeLaws
 pub mod CountLaws
 pub mod TextLaws

@@ -13,11 +13,11 @@ use lib.Seq.{drop-cons, drop-drop}
 use Rattle.answer.specs.declared.Answer.{Answer}
 use Rattle.answer.specs.declared.Answer.the-variants.{Done, Refused}
 use Rattle.answer.specs.Refusals.{not-ascending, not-a-code, lines}
-use Rattle.octets.specs.Order.{Octets, order, same}
+use Rattle.octets.specs.Order.{Octets, order, same, is-less}
 use Rattle.octets.proofs.OrderLaws.{lt-compare, same-true}
 use Rattle.codes.specs.Code.{within, all, hyphen, character, digit, letter, apart, is-code, key-of}
 use Rattle.codes.specs.Count.{is-count, number}
-use Rattle.codes.specs.Text.{Reading, accepted, refused, before-LF, ended, line, rest, is-lt, above, fault, more, codes, counted, second-line, opening, reading}
+use Rattle.codes.specs.Text.{Reading, accepted, refused, before-LF, ended, line, rest, above, fault, more, codes, counted, second-line, opening, reading}
 use Rattle.codes.specs.Read.{answer, keys}
 use Rattle.codes.proofs.Tests.{both, passed, held}
 use Rattle.codes.proofs.CodeLaws.{key-of-length}
@@ -98,10 +98,10 @@ pub fault-no-code : (b : Option Octets) (s : Octets) → ended s ≡ true → is
 unfolding fault
 fault-no-code b s e f = rw (e, f)
 
-pub fault-order : (b s : Octets) (o : Ordering) → ended s ≡ true → is-code (line s) ≡ true → order b (key-of (line s)) ≡ o
-    → fault (some b) s ≡ cond (is-lt o) 0 not-ascending
+pub fault-order : (b s : Octets) (t : Bool) → ended s ≡ true → is-code (line s) ≡ true → is-less (order b (key-of (line s))) ≡ t
+    → fault (some b) s ≡ cond t 0 not-ascending
 unfolding fault above
-fault-order b s o e f g = rw (e, f, g)
+fault-order b s t e f g = rw (e, f, g)
 
 pub record Sound-line (b : Option Octets) (s : Octets) : Type 0 where
   pub is-ended : ended s ≡ true
@@ -129,7 +129,7 @@ unfolding fault above
 fault-first s = go (is-code (line s)) refl
   where
     go : (y : Bool) → is-code (line s) ≡ y
-        → cond (ended s) (cond (is-code (line s)) (cond (is-lt (order (replicate 20 0) (key-of (line s)))) 0 not-ascending) not-a-code) lines
+        → cond (ended s) (cond (is-code (line s)) (cond (is-less (order (replicate 20 0) (key-of (line s)))) 0 not-ascending) not-a-code) lines
         ≡ cond (ended s) (cond (is-code (line s)) (cond true 0 not-ascending) not-a-code) lines
     go false e = rw e
     go true e = let c = code-parts (line s) e in rw (e, zeros-below (line s) (c .some-octets) (c .characters))
@@ -212,13 +212,13 @@ module _ (text before : Octets) (at n i : ℕ) (a : Answer) (h : told i (codes (
 
 -- The line at `at` in the code's terms
 
-pub fault-at : (text before key : Octets) (at end : ℕ) (o : Ordering) → end ≡ at + before-LF (drop at text) → end < length text
-    → is-code (take (end - at) (drop at text)) ≡ true → key ≡ key-of (take (end - at) (drop at text)) → o ≡ order before key
-    → fault (some before) (drop at text) ≡ cond (is-lt o) 0 not-ascending
-fault-at text before key at end o e l c k q =
+pub fault-at : (text before key : Octets) (at end : ℕ) (t : Bool) → end ≡ at + before-LF (drop at text) → end < length text
+    → is-code (take (end - at) (drop at text)) ≡ true → key ≡ key-of (take (end - at) (drop at text)) → t ≡ is-less (order before key)
+    → fault (some before) (drop at text) ≡ cond t 0 not-ascending
+fault-at text before key at end t e l c k q =
     let is : line (drop at text) ≡ take (end - at) (drop at text) = line-at text at end e in
-    let f : order before (key-of (line (drop at text))) ≡ o = rw (is, ← k) (sym q) in
-    fault-order before (drop at text) o (ended-at text at end e l) (rw is c) f
+    let f : is-less (order before (key-of (line (drop at text)))) ≡ t = rw (is, ← k) (sym q) in
+    fault-order before (drop at text) t (ended-at text at end e l) (rw is c) f
 
 pub sound-few : (b : Option Octets) (text : Octets) (at end : ℕ) → end ≡ at + before-LF (drop at text) → fault b (drop at text) ≡ 0
     → (end < length text) × (length (take (end - at) (drop at text)) ≤ 20)

@@ -1,12 +1,12 @@
 -- 01, "The list as text": the text's form, with each refusal and its place, in document 01's order.
-use mathlib.Core.Bool.{Bool, true, false, cond, _&&_}
+use mathlib.Core.Bool.{Bool, true, cond, _&&_}
 use mathlib.Core.List.{List, [], _∷_}
 use mathlib.Core.Option.{Option, none, some}
-use Prim.Native.Nat.{ℕ, zero, suc, _*_, Ordering, Ordering·lt, Ordering·eq, Ordering·gt}
+use Prim.Native.Nat.{ℕ, zero, suc, _*_}
 use lib.Dec.{ltb, eqb}
 use lib.ListN.{length, take, drop}
 use Rattle.answer.specs.Refusals.{size, no-keys, too-many, not-ascending, too-short, head, not-a-code, lines}
-use Rattle.octets.specs.Order.{Octets, order, same}
+use Rattle.octets.specs.Order.{Octets, order, same, is-less}
 use Rattle.codes.specs.Code.{is-code, key-of}
 use Rattle.codes.specs.Count.{is-count, number}
 
@@ -32,15 +32,10 @@ line s = take (before-LF s) s
 unfoldable pub rest : Octets → Octets
 rest s = drop (suc (before-LF s)) s
 
-abbrev pub is-lt : Ordering → Bool
-is-lt Ordering·lt = true
-is-lt Ordering·eq = false
-is-lt Ordering·gt = false
-
 -- "keys strictly ascending": above the key before, where there is one
 unfoldable pub above : Option Octets → Octets → Bool
 above none k = true
-above (some b) k = is-lt (order b k)
+above (some b) k = is-less (order b k)
 
 -- the refusal that the line at the front meets, or 0: "no LF before the end of the text, or no line at all (14), not a code (13), not above the code before (5)"
 unfoldable pub fault : Option Octets → Octets → ℕ

@@ -40,12 +40,10 @@ fn line_fault(text: &[u8], at: usize, end: usize, before: &[u8; 20]) -> u16
         return answer::NOT_A_CODE;
     }
     let key = key_of(&text[at..end]);
-    let o = octets::compare(before, &key);
-    match o {
-        octets::Order::Less => 0,
-        octets::Order::Equal => answer::NOT_ASCENDING,
-        octets::Order::Greater => answer::NOT_ASCENDING,
+    if octets::below(before, &key) {
+        return 0;
     }
+    answer::NOT_ASCENDING
 }
 
 // n code lines from `start` on, and no octet after them.

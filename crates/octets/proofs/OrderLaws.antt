@@ -7,7 +7,7 @@ use Prim.Native.Nat.{ℕ, zero, suc, _<_, suc-le-suc, compare, Ordering, Orderin
 use native.Mathlib.Nat.{le-of-suc-le-suc, not-suc-le-zero}
 use native.Mathlib.Omega.{arith}
 use lib.Dec.{isEq}
-use Rattle.octets.specs.Order.{Octets, orElse, order, same}
+use Rattle.octets.specs.Order.{Octets, orElse, order, same, is-less}
 
 abbrev pub flip : Ordering → Ordering
 flip Ordering·lt = Ordering·gt
@@ -119,3 +119,8 @@ same-true a b e = order-eq a b (is-eq (order a b) e)
 pub same-refl : (a : Octets) → same a a ≡ true
 unfolding same
 same-refl a = rw (order-refl a)
+
+pub is-less-true : (o : Ordering) → is-less o ≡ true → o ≡ Ordering·lt
+is-less-true Ordering·lt e = refl
+is-less-true Ordering·eq e = cc
+is-less-true Ordering·gt e = cc

@@ -1,5 +1,5 @@
 -- Octet strings and their order (01, "Keys and codes": "octet by octet from the first, as unsigned numbers").
-use mathlib.Core.Bool.{Bool}
+use mathlib.Core.Bool.{Bool, true, false}
 use mathlib.Core.List.{List, [], _∷_}
 use Prim.Native.Nat.{ℕ, compare, Ordering, Ordering·lt, Ordering·eq, Ordering·gt}
 use lib.Dec.{isEq}
@@ -24,3 +24,9 @@ order (a ∷ xs) (b ∷ ys) = orElse (compare a b) (order xs ys)
 -- the same octets, one by one
 unfoldable pub same : Octets → Octets → Bool
 same a b = isEq (order a b)
+
+-- the first is less than the second
+abbrev pub is-less : Ordering → Bool
+is-less Ordering·lt = true
+is-less Ordering·eq = false
+is-less Ordering·gt = false

@@ -2,7 +2,7 @@
 ghost use mathlib.Core.Path.{_≡_};
 ghost use Prim.Native.Nat.{_+_, _≤_};
 ghost use lib.ListN.{length};
-ghost use Rattle.octets.specs.Order.{order};
+ghost use Rattle.octets.specs.Order.{order, is-less};
 ghost use Rattle.octets.specs.Order as specs;
 ghost use Rattle.octets.specs.Compared.{orderOf};
 ghost use Rattle.octets.specs.Put.{Wrote};
@@ -45,6 +45,18 @@ pub fn same(a: &[u8], b: &[u8]) -> bool
     match o {
         Order::Equal => true,
         Order::Less => false,
+        Order::Greater => false,
+    }
+}
+
+// Whether a stands below b.
+pub fn below(a: &[u8], b: &[u8]) -> bool
+    ensures { λ r. ⌜ r ≡ is-less (order (now (a .entry)) (now (b .entry))) ⌝ }
+{
+    let o = compare(a, b);
+    match o {
+        Order::Less => true,
+        Order::Equal => false,
         Order::Greater => false,
     }
 }

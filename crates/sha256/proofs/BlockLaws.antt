@@ -1,11 +1,11 @@
 -- Blocks, one after the other: those of a string whose length is a whole number of blocks, then those of what follows it.
-use mathlib.Core.List.{List, _++_, append-assoc}
+use mathlib.Core.List.{_++_, append-assoc}
 use mathlib.Core.Path.{_≡_, refl, sym, ap, ap₂, _∙_}
-use Prim.Native.Nat.{ℕ, zero, suc, _+_, _-_, _*_, _/_, _%_, _<_, _≤_}
+use Prim.Native.Nat.{ℕ, zero, suc, _+_, _*_, _/_, _≤_}
 use native.Mathlib.Numerals.{add-one}
 use native.Mathlib.Omega.{arith}
 use lib.ListN.{length, take, drop, length-append, length-drop, take-append-drop}
-use lib.Seq.{drop-drop, take-append-le, drop-append-le, drop-append-add, length-take-le, take-all}
+use lib.Seq.{take-append-le, drop-append-le, drop-append-add, length-take-le, take-all}
 use Rattle.octets.specs.Order.{Octets}
 use Rattle.sha256.specs.Fips180.{H0, compress, block, blocks, digest, padding, padded, sha256}
 use Rattle.sha256.specs.declared.compress.State.{State}

@@ -1,11 +1,11 @@
 -- The digest is written word by word, each where the last one ended.
-use mathlib.Core.List.{List, [], _∷_, _++_, append-assoc}
-use mathlib.Core.Path.{_≡_, refl, sym, ap, _∙_}
-use Prim.Native.Nat.{ℕ, zero, suc, _+_, _*_, _<_, _≤_}
+use mathlib.Core.List.{List, [], _∷_, _++_}
+use mathlib.Core.Path.{_≡_, refl, _∙_}
+use Prim.Native.Nat.{ℕ, _+_, _*_, _<_}
 use native.Mathlib.Numerals.{add-one}
 use native.Mathlib.Omega.{arith}
-use lib.ListN.{length, getD, take, length-append}
-use lib.Seq.{take-suc, length-take-le, take-all}
+use lib.ListN.{length, getD, take}
+use lib.Seq.{take-suc, length-take-le}
 use Rattle.octets.specs.Order.{Octets}
 use Rattle.octets.specs.Put.{Wrote}
 use Rattle.octets.proofs.PutLaws.{put-end, wrote-more}

@@ -1,7 +1,7 @@
 -- The last blocks: what is written into a buffer of zeros leaves zeros between the octet 0x80 and the length.
-use mathlib.Core.List.{List, [], _∷_, _++_, append-assoc}
+use mathlib.Core.List.{[], _∷_, _++_, append-assoc}
 use mathlib.Core.Path.{_≡_, refl, sym, ap, _∙_}
-use Prim.Native.Nat.{ℕ, suc, _+_, _-_, _*_, _/_, _%_, _<_, _≤_}
+use Prim.Native.Nat.{ℕ, _+_, _-_, _*_, _/_, _%_, _^_, _<_, _≤_}
 use native.Mathlib.Numerals.{add-one}
 use native.Mathlib.Omega.{arith}
 use lib.ListN.{length, take, drop, set, replicate, length-append, length-replicate, length-set, replicate-append-replicate}
@@ -39,8 +39,8 @@ between s o n e {b} {c} h l p q =
 
 -- the octets left over, 0x80, and the length as two words that end where the last of n blocks does
 pub last-written : (rest : Octets) (len n : ℕ) {b d f : Octets} {i j r : ℕ} → n ≤ 2 → 64 * n ≡ length rest + 9 + zeros (8 * len) / 8
-    → Wrote (replicate 128 0) 0 rest b i → Wrote (set b i 0x80) (64 * n - 8) (octets 4 (8 * len / 4294967296)) d j
-    → Wrote d j (octets 4 (8 * len % 4294967296)) f r → take (64 * n) f ≡ rest ++ padding len
+    → Wrote (replicate 128 0) 0 rest b i → Wrote (set b i 0x80) (64 * n - 8) (octets 4 (8 * len / 2 ^ 32)) d j
+    → Wrote d j (octets 4 (8 * len % 2 ^ 32)) f r → take (64 * n) f ≡ rest ++ padding len
 unfolding octets padding
 last-written rest len n {b} {d} {f} {i} {j} {r} hn h w₁ w₂ w₃ =
     let s = rest ++ (0x80 ∷ []) in
@@ -49,7 +49,7 @@ last-written rest len n {b} {d} {f} {i} {j} {r} hn h w₁ w₂ w₃ =
     let ls : length s ≡ length rest + 1 = simp length-append in
     let lb : length b ≡ 128 = wrote-length w₁ (omega arith) in
     let x : Wrote (replicate 128 0) 0 s (set b i 0x80) (i + 1) = wrote-more w₁ (wrote-one b i 0x80 (omega (arith, w₁ .ends))) (omega arith) in
-    let y : Wrote (set b i 0x80) (64 * n - 8) (octets 4 (8 * len / 4294967296) ++ octets 4 (8 * len % 4294967296)) f r =
+    let y : Wrote (set b i 0x80) (64 * n - 8) (octets 4 (8 * len / 2 ^ 32) ++ octets 4 (8 * len % 2 ^ 32)) f r =
     wrote-more w₂ w₃ (simp length-set (omega arith)) in
     let y′ : f ≡ put (set b i 0x80) (64 * n - 8) o = rw (octets-eight (8 * len)) at (y .left) in
     let e : 64 * n - 8 - length s ≡ z = omega arith in

@@ -1,6 +1,6 @@
 -- A word and its four octets: joined by shifts and `or` they are the word, and written one by one they are one write.
-use mathlib.Core.List.{List, [], _∷_, _++_}
-use mathlib.Core.Path.{_≡_, refl, _∙_}
+use mathlib.Core.List.{[], _∷_, _++_}
+use mathlib.Core.Path.{_≡_}
 use Prim.Native.Nat.{ℕ, suc, _+_, _*_, _/_, _%_, _^_, _<_, _≤_}
 use native.Mathlib.Omega.{arith}
 use lib.Bits.{bitOr, or-shifted}
@@ -32,7 +32,7 @@ put-four d at a b c e h =
     rw (e1, e2, e3) q
 
 -- a number of 64 bits as two words
-pub octets-eight : (x : ℕ) → octets 4 (x / 4294967296) ++ octets 4 (x % 4294967296) ≡ octets 8 x
+pub octets-eight : (x : ℕ) → octets 4 (x / 2 ^ 32) ++ octets 4 (x % 2 ^ 32) ≡ octets 8 x
 unfolding octets
 octets-eight x =
     let e7 : x / 4294967296 / 16777216 % 256 ≡ x / 72057594037927936 % 256 = omega arith in

@@ -12,7 +12,6 @@ use Rattle.sha256.specs.declared.compress.State.{State}
 infixl 60 _AND_ _OR_ _XOR_
 infixl 65 _⊞_
 infixl 70 _≪_ _≫_
-
 -- §3.1: the number x as n octets, the most significant first
 unfoldable pub octets : ℕ → ℕ → Octets
 octets zero x = []

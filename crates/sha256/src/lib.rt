@@ -20,17 +20,23 @@ pub fn hash(msg: &[u8], out: &mut [u8]) -> Answer
 {
     let n = msg.len();
     if 65535 < n {
-        return Answer::Refused { number: answer::SIZE, place: 0 };
+        return Answer::Refused {
+            number: answer::SIZE,
+            place: 0,
+        };
     }
     if out.len() != 32 {
-        return Answer::Refused { number: answer::SIZE, place: 0 };
+        return Answer::Refused {
+            number: answer::SIZE,
+            place: 0,
+        };
     }
     let d = sha256(msg);
     octets::put(out, 0, &d);
     Answer::Done(n as u32)
 }
 
-// The hash by itself, for callers that know the message's size.
+// The hash by itself, for callers that know the message's size: its length in bits is below 2^64, as the standard asks.
 pub fn sha256(msg: &[u8]) -> [u8; 32]
     requires { ⌜ length (now msg) < 2 ^ 61 ⌝ }
     ensures { λ r. ⌜ r ≡ fips.sha256 (now (msg .entry)) ⌝ }

@@ -2,7 +2,7 @@
 use crate::words::put_word;
 ghost use mathlib.Core.List.{_++_};
 ghost use mathlib.Core.Path.{_≡_};
-ghost use Prim.Native.Nat.{_+_, _*_, _/_, _%_, _^_, _≤_, _<_};
+ghost use Prim.Native.Nat.{_+_, _*_, _/_, _^_, _≤_, _<_};
 ghost use lib.ListN.{length, take};
 ghost use Rattle.sha256.specs.Fips180.{padding, zeros};
 
@@ -23,7 +23,7 @@ pub fn last_blocks(rest: &[u8], len: usize, n: usize) -> [u8; 128]
     let bits = 8 * (len as u64);
     let end = octets::put(&mut p, 0, rest);
     p[end] = 0x80;
-    let at = put_word(&mut p, 64 * n - 8, (bits / 4294967296) as u32);
-    put_word(&mut p, at, (bits % 4294967296) as u32);
+    let at = put_word(&mut p, 64 * n - 8, (bits / 0x100000000) as u32);
+    put_word(&mut p, at, (bits % 0x100000000) as u32);
     p
 }

@@ -36,7 +36,6 @@ fn next_word(w: &[u32; 64], t: usize) -> u32
     )
 }
 
-// Eight words to a turn of the loop, so that what they share stays in registers.
 pub fn schedule(b: &[u8]) -> [u32; 64]
     requires { ⌜ length (now b) ≡ 64 ⌝ }
     ensures { λ r. ⌜ r ≡ fips.schedule (now (b .entry)) 64 ⌝ }
@@ -44,23 +43,8 @@ pub fn schedule(b: &[u8]) -> [u32; 64]
     let mut w = block_words(b);
     let mut t: usize = 16;
     while t < 64 {
-        let v0 = next_word(&w, t);
-        w[t] = v0;
-        let v1 = next_word(&w, t + 1);
-        w[t + 1] = v1;
-        let v2 = next_word(&w, t + 2);
-        w[t + 2] = v2;
-        let v3 = next_word(&w, t + 3);
-        w[t + 3] = v3;
-        let v4 = next_word(&w, t + 4);
-        w[t + 4] = v4;
-        let v5 = next_word(&w, t + 5);
-        w[t + 5] = v5;
-        let v6 = next_word(&w, t + 6);
-        w[t + 6] = v6;
-        let v7 = next_word(&w, t + 7);
-        w[t + 7] = v7;
-        t += 8;
+        w[t] = next_word(&w, t);
+        t += 1;
     }
     w
 }

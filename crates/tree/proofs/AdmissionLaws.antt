@@ -9,9 +9,9 @@ use lib.ListN.{length, take, drop, getD}
 use lib.Seq.{take-take}
 use Rattle.answer.specs.declared.Answer.the-variants.{Done, Refused}
 use Rattle.answer.specs.Refusals.{not-ascending}
-use Rattle.octets.specs.Order.{Octets, order}
+use Rattle.octets.specs.Order.{Octets, order, is-less}
 use Rattle.attester.specs.Entry.{key, entries}
-use Rattle.attester.specs.Admission.{is-less, misplaced-after, misplaced, sound}
+use Rattle.attester.specs.Admission.{misplaced-after, misplaced, sound}
 use Rattle.attester.proofs.EntryLaws.{entries-length, entries-at}
 use Rattle.attester.proofs.AdmissionLaws.{misplaced-start, misplaced-end, misplaced-turn, misplaced-stop}
 use Rattle.tree.specs.Admitted.{answer-of}

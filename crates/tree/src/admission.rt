@@ -2,26 +2,12 @@
 ghost use mathlib.Core.Path.{_≡_};
 ghost use Prim.Native.Nat.{_*_, _/_, _≤_, _<_};
 ghost use lib.ListN.{length};
-ghost use Rattle.octets.specs.Order.{order};
 ghost use Rattle.attester.specs.Entry.{entries};
-ghost use Rattle.attester.specs.Admission.{is-less, misplaced, sound};
+ghost use Rattle.attester.specs.Admission.{misplaced, sound};
 ghost use Rattle.attester.specs.Admission as specs;
 ghost use Rattle.tree.specs.Admitted.{answer-of};
 ghost use Rattle.tree.specs.Edition.{width, most};
 use answer::Answer;
-use octets::Order;
-
-// Whether the first key is below the second.
-fn below(a: &[u8], b: &[u8]) -> bool
-    ensures { λ r. ⌜ r ≡ is-less (order (now (a .entry)) (now (b .entry))) ⌝ }
-{
-    let o = octets::compare(a, b);
-    match o {
-        Order::Less => true,
-        Order::Equal => false,
-        Order::Greater => false,
-    }
-}
 
 // Answers the number of keys, or refuses with the index of the first key not above the one before it.
 fn ascending(keys: &[u8], n: usize) -> Answer
@@ -31,7 +17,7 @@ fn ascending(keys: &[u8], n: usize) -> Answer
     let mut i = 1;
     while i < n {
         let at = 20 * i;
-        if !below(&keys[at - 20..at], &keys[at..at + 20]) {
+        if !octets::below(&keys[at - 20..at], &keys[at..at + 20]) {
             return Answer::Refused {
                 number: answer::NOT_ASCENDING,
                 place: i as u32,

@@ -1,6 +1,5 @@
 use mathlib.Core.Path.{_≡_, refl, sym, ap, _∙_}
 use Rattle.codes.proofs.TextLaws.{unended-at, ended-at, line-at, fault-unended, fault-no-code, fault-at, code-parts}
-use Rattle.octets.specs.Compared.{orderOf}
 use Prim.Native.Nat.{_-_, _<_}
 use lib.ListN.{length, take, drop}
 use borrow.Author.Tests.{not-true, not-false}
@@ -13,7 +12,7 @@ use Rattle.codes.proofs.text.line_fault.Reads as reads
 use Rattle.codes.proofs.text.line_fault.Lts as lts
 use Rattle.codes.proofs.code.is_code.Reads as is-code-reads
 use Rattle.codes.proofs.code.key_of.Reads as key-of-reads
-use Rattle.octets.proofs.compare.Reads as compare-reads
+use Rattle.octets.proofs.below.Reads as below-reads
 
 -- src/text.rt:37:9
 returns : tie.Need-returns
@@ -59,40 +58,23 @@ part-key-of-end c = search needs
 key-of-requires : tie.Need-key-of-requires
 key-of-requires c κs = let a = c .before .before .before .before .before .before .args in code-parts (take (a .end - a .at) (drop (a .at) (a .text .now))) (sym (c .before .before .is-code .ensures) ∙ not-false _ (c .before .if2 .left)) .few
 
--- src/text.rt:43:37
-slice-aggregate-compare : tie.Need-slice-aggregate-compare
-slice-aggregate-compare c = search needs
+-- src/text.rt:43:30
+slice-aggregate-below : tie.Need-slice-aggregate-below
+slice-aggregate-below c = search needs
 
--- src/text.rt:43:9
-compare-requires : tie.Need-compare-requires
-compare-requires c κs = search needs
+-- src/text.rt:43:8
+below-requires : tie.Need-below-requires
+below-requires c κs = search needs
 
--- src/text.rt:45:32
-enum-told : tie.Need-enum-told
-enum-told c = search needs
-
--- src/text.rt:46:33
-enum-told-2 : tie.Need-enum-told-2
-enum-told-2 c = search needs
-
--- src/text.rt:47:35
-enum-told-3 : tie.Need-enum-told-3
-enum-told-3 c = search needs
-
--- src/text.rt:32:1
+-- src/text.rt:44:9
 returns-3 : tie.Need-returns-3
-returns-3 c = let a = c .before .before .before .before .before .before .before .before .before .before .before .before .args in
-    sym (rw (c .enum-told .given .1) at (fault-at (a .text .now) (a .before .now) (c .before .before .before .before .before .key-of .result) (a .at) (a .end) (orderOf (c .before .before .compare .result)) (c .before .before .before .before .before .before .before .before .before .before .before .before .pre .1) (omega (arith, c .before .before .before .before .before .before .before .before .before .before, c .before .before .before .before .before .before .before .before .before .before .before .before)) (sym (c .before .before .before .before .before .before .before .before .is-code .ensures) ∙ not-false _ (c .before .before .before .before .before .before .before .if2 .left)) (c .before .before .before .before .before .key-of .ensures) (c .before .before .compare .ensures)))
+returns-3 c = let a = c .before .before .before .before .before .before .before .before .before .before .before .args in
+    sym (rw (c .if3 .taken) at (fault-at (a .text .now) (a .before .now) (c .before .before .before .before .key-of .result) (a .at) (a .end) (c .before .below .result) (c .before .before .before .before .before .before .before .before .before .before .before .pre .1) (omega (arith, c .before .before .before .before .before .before .before .before .before, c .before .before .before .before .before .before .before .before .before .before .before)) (sym (c .before .before .before .before .before .before .before .is-code .ensures) ∙ not-false _ (c .before .before .before .before .before .before .if2 .left)) (c .before .before .before .before .key-of .ensures) (c .before .below .ensures)))
 
 -- src/text.rt:32:1
 returns-4 : tie.Need-returns-4
-returns-4 c = let a = c .before .before .before .before .before .before .before .before .before .before .before .before .args in
-    sym (rw (c .enum-told2 .given .1) at (fault-at (a .text .now) (a .before .now) (c .before .before .before .before .before .key-of .result) (a .at) (a .end) (orderOf (c .before .before .compare .result)) (c .before .before .before .before .before .before .before .before .before .before .before .before .pre .1) (omega (arith, c .before .before .before .before .before .before .before .before .before .before, c .before .before .before .before .before .before .before .before .before .before .before .before)) (sym (c .before .before .before .before .before .before .before .before .is-code .ensures) ∙ not-false _ (c .before .before .before .before .before .before .before .if2 .left)) (c .before .before .before .before .before .key-of .ensures) (c .before .before .compare .ensures)))
-
--- src/text.rt:32:1
-returns-5 : tie.Need-returns-5
-returns-5 c = let a = c .before .before .before .before .before .before .before .before .before .before .before .before .args in
-    sym (rw (c .enum-told3 .given .1) at (fault-at (a .text .now) (a .before .now) (c .before .before .before .before .before .key-of .result) (a .at) (a .end) (orderOf (c .before .before .compare .result)) (c .before .before .before .before .before .before .before .before .before .before .before .before .pre .1) (omega (arith, c .before .before .before .before .before .before .before .before .before .before, c .before .before .before .before .before .before .before .before .before .before .before .before)) (sym (c .before .before .before .before .before .before .before .before .is-code .ensures) ∙ not-false _ (c .before .before .before .before .before .before .before .if2 .left)) (c .before .before .before .before .before .key-of .ensures) (c .before .before .compare .ensures)))
+returns-4 c = let a = c .before .before .before .before .before .before .before .before .before .before .before .args in
+    sym (rw (c .if3 .left) at (fault-at (a .text .now) (a .before .now) (c .before .before .before .before .key-of .result) (a .at) (a .end) (c .before .below .result) (c .before .before .before .before .before .before .before .before .before .before .before .pre .1) (omega (arith, c .before .before .before .before .before .before .before .before .before, c .before .before .before .before .before .before .before .before .before .before .before)) (sym (c .before .before .before .before .before .before .before .is-code .ensures) ∙ not-false _ (c .before .before .before .before .before .before .if2 .left)) (c .before .before .before .before .key-of .ensures) (c .before .below .ensures)))
 
 pub line-fault-spec : {M : Type 1} → statement M
 line-fault-spec =
@@ -108,11 +90,7 @@ line-fault-spec =
     part-key-of-start
     part-key-of-end
     key-of-requires
-    slice-aggregate-compare
-    compare-requires
-    enum-told
-    enum-told-2
-    enum-told-3
+    slice-aggregate-below
+    below-requires
     returns-3
-    returns-4
-    returns-5)
+    returns-4)

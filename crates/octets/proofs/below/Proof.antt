@@ -1,7 +1,7 @@
 -- The three cases of the comparison.
 use borrow.Author.Needs.{needs}
-use Rattle.tree.proofs.admission.below.Statement.{statement}
-use Rattle.tree.proofs.admission.below.Tie as tie
+use Rattle.octets.proofs.below.Statement.{statement}
+use Rattle.octets.proofs.below.Tie as tie
 
 compare-requires : tie.Need-compare-requires
 compare-requires c κs = search needs

@@ -1,0 +1,100 @@
+-- The demands follow from the promises' definitions: a refusal's buffer is the buffer, and a text's keys are a listing.
+use mathlib.Core.Path.{_≡_, refl, sym, ap, _∙_}
+use mathlib.Core.Bool.{Bool, true, false, cond, _&&_}
+use mathlib.Core.List.{List, [], _∷_, _++_, map, flatten, append-nil}
+use mathlib.Core.Option.{Option, none, some}
+use Prim.Native.Nat.{ℕ, zero, suc, _+_, _*_, _≤_, _<_, Ordering, Ordering·lt, Ordering·eq, Ordering·gt}
+use native.Mathlib.Omega.{arith}
+use borrow.Author.Tests.{eq-eqb}
+use lib.ListN.{length, take, drop, length-map, drop-of-length-le}
+use lib.Seq.{take-at, take-all}
+use Rattle.answer.specs.declared.Answer.{Answer}
+use Rattle.answer.specs.declared.Answer.the-variants.{Done, Refused}
+use Rattle.answer.specs.Answer.{written}
+use Rattle.octets.specs.Order.{Octets, order, is-less}
+use Rattle.octets.proofs.OrderLaws.{is-less-true}
+use Rattle.sha256.specs.Fips180.{sha256}
+use Rattle.sha256.proofs.Fips180Laws.{sha256-length}
+use Rattle.attester.specs.Entry.{key}
+use Rattle.attester.specs.Label.{digest}
+use Rattle.attester.specs.Listing.{Below, Each, Ascending, Listing}
+use Rattle.attester.specs.Admission.{admit, admitted}
+use Rattle.attester.proofs.ListingLaws.{ascending-cons}
+use Rattle.attester.proofs.AdmissionLaws.{listing-admitted}
+use Rattle.attester.proofs.EntryLaws.{flatten-length}
+use Rattle.attester.proofs.LabelLaws.{digest-length}
+use Rattle.codes.specs.Code.{is-code, key-of}
+use Rattle.codes.specs.Text.{Reading, accepted, refused, above, reading}
+use Rattle.codes.specs.Read.{Read, answer, keys}
+use Rattle.codes.specs.Writing.{all-codes, ascending, code-of}
+use Rattle.codes.proofs.Tests.{both}
+use Rattle.codes.proofs.CodeLaws.{key-of-length}
+use Rattle.codes.proofs.TextLaws.{code-parts}
+use Rattle.codes.proofs.AcceptedLaws.{answer-done}
+use Rattle.codes.proofs.NothingSkipped.{nothing-skipped, nothing-refused}
+use Rattle.tree.specs.Admitted.{answer-of, entries-of}
+use Rattle.tree.specs.Digest.{Digested, digest-answer, digest-octets}
+use Rattle.tree.specs.Edition.{hash, width, most}
+use Rattle.sagebutton.specs.Demands.{Demand-1, Digest-of-reading, Read-lists-have-digests}
+
+pub demand-1 : Demand-1
+unfolding written
+demand-1 = record {
+  hash-untouched = λ input out m p out′ h. h .left;
+  read-list-untouched = λ input out m p out′ h. h .left;
+  digest-untouched = λ input out m p out′ h. h .left;
+  nothing-skipped = nothing-skipped;
+  nothing-refused = nothing-refused;
+}
+
+-- The keys of codes are a listing
+
+keys-sized : (cs : List Octets) → all-codes cs ≡ true → Each (λ k. length k ≡ 20) (map key-of cs)
+unfolding all-codes
+keys-sized [] e = tt
+keys-sized (c ∷ cs) e =
+    let h = both (is-code c) (all-codes cs) e in
+    (key-of-length c (code-parts c (h .0) .few), keys-sized cs (h .1))
+
+below : (a b : Octets) → length a ≡ 20 → length b ≡ 20 → above (some a) b ≡ true → Below a b
+unfolding above key
+below a b p q e = rw (take-all 20 a (omega arith), take-all 20 b (omega arith)) (is-less-true (order a b) e)
+
+keys-ascend : (b : Option Octets) (ks : List Octets) → Each (λ k. length k ≡ 20) ks → ascending b ks ≡ true → Ascending ks
+unfolding ascending
+keys-ascend b [] s e = tt
+keys-ascend b (k ∷ []) s e = (tt, tt)
+keys-ascend b (k ∷ j ∷ ks) s e =
+    let h = both (above b k) (ascending (some k) (j ∷ ks)) e in
+    let g = both (above (some k) j) (ascending (some j) ks) (h .1) in
+    ascending-cons k j ks (below k j (s .0) (s .1 .0) (g .0)) (keys-ascend (some k) (j ∷ ks) (s .1) (h .1))
+
+reading-listing : (room : ℕ) (text : Octets) (ks : List Octets) → reading room text ≡ accepted ks → Listing 20 3000 ks
+reading-listing room text ks e =
+    let w = nothing-skipped room text ks e in
+    let l = w .listing in
+    let n : length (map code-of ks) ≡ length ks = length-map ks code-of in
+    let s : Each (λ k. length k ≡ 20) ks = rw (w .its-keys) at (keys-sized (map code-of ks) (l .codes)) in
+    record {
+      some-entry = rw n at (l .some-codes);
+      few = rw n at (l .few);
+      sized = s;
+      ascending = keys-ascend none ks s (rw (w .its-keys) at (l .order));
+    }
+
+pub read-lists-have-digests : Read-lists-have-digests
+unfolding written digest-answer digest-octets keys
+read-lists-have-digests text out n out′ r d d32 a d′ g =
+    let t = answer-done (reading (length out) text) n (sym (r .answered)) in
+    let ks = t .those in
+    let l = reading-listing (length out) text ks (t .is) in
+    let n20 : length (flatten ks) ≡ 20 * n = omega (arith, flatten-length 20 ks (l .sized), t .many) in
+    let k : keys (reading (length out) text) ≡ flatten ks = rw (t .is) in
+    let o : out′ ≡ flatten ks ++ drop (length (flatten ks)) out = rw k at (r .left) in
+    let front : take (20 * n) out′ ≡ flatten ks = rw o (take-at (flatten ks) (drop (length (flatten ks)) out) (20 * n) n20) in
+    let adm : admit 20 3000 (take (20 * n) out′) ≡ admitted ks = rw front (listing-admitted 20 3000 ks (omega arith) l) in
+    let done : a ≡ Done n = g .answered ∙ rw (eq-eqb (length d) 32 d32, adm) (ap Done (t .many)) in
+    let w : d′ ≡ written (Done n) (digest hash (entries-of (admit 20 3000 (take (20 * n) out′)))) d = rw done at (g .left) in
+    let v : d′ ≡ digest sha256 ks ++ drop (length (digest sha256 ks)) d = rw adm at w in
+    let none-left : drop (length (digest sha256 ks)) d ≡ [] = drop-of-length-le d (omega (arith, digest-length sha256 sha256-length ks)) in
+    record { keys = ks; read = t .is; answered = done; written = v ∙ rw none-left (append-nil (digest sha256 ks)) }

@@ -1,0 +1,35 @@
+-- A promise that gives the answer and the buffer by definitions of the inputs is met by those alone.
+use mathlib.Core.Path.{_≡_, refl}
+use lib.ListN.{length}
+use Rattle.answer.specs.Answer.{written}
+use Rattle.sha256.specs.Fips180.{sha256}
+use Rattle.sha256.specs.Hash.{hash-answer}
+use Rattle.codes.specs.Text.{reading}
+use Rattle.codes.specs.Read.{answer, keys}
+use Rattle.tree.specs.Digest.{digest-answer, digest-octets}
+use Rattle.tree.specs.Edition.{hash, width, most}
+use Rattle.sagebutton.specs.OneOutcome.{Hash-has-one-outcome, Read-list-has-one-outcome, Digest-has-one-outcome}
+
+pub hash-has-one-outcome : Hash-has-one-outcome
+hash-has-one-outcome msg out = record {
+  answer = hash-answer msg (length out);
+  buffer = written (hash-answer msg (length out)) (sha256 msg) out;
+  permitted = record { answered = refl; left = refl };
+  only = λ r out′ m. (m .answered, cc);
+}
+
+pub read-list-has-one-outcome : Read-list-has-one-outcome
+read-list-has-one-outcome text out = record {
+  answer = answer (reading (length out) text);
+  buffer = written (answer (reading (length out) text)) (keys (reading (length out) text)) out;
+  permitted = record { answered = refl; left = refl };
+  only = λ r out′ m. (m .answered, cc);
+}
+
+pub digest-has-one-outcome : Digest-has-one-outcome
+digest-has-one-outcome list out = record {
+  answer = digest-answer width most list (length out);
+  buffer = written (digest-answer width most list (length out)) (digest-octets hash width most list) out;
+  permitted = record { answered = refl; left = refl };
+  only = λ r out′ m. (m .answered, cc);
+}

@@ -1,0 +1,49 @@
+// The face of Sagebutton: each public function, for Rattle callers by its name and for C and Rust callers by its name after
+// `sagebutton_`. None asks anything of its caller: every input is answered, or refused with document 01's number and place.
+ghost use Rattle.sha256.specs.Hash.{Hashed};
+ghost use Rattle.codes.specs.Read.{Read};
+ghost use Rattle.tree.specs.Digest.{Digested};
+ghost use Rattle.sagebutton.specs.Packed.{Packed};
+use answer::Answer;
+
+// The SHA-256 of a message of 0 to 65,535 octets, into exactly 32 octets; answers the message's length.
+pub fn hash(msg: &[u8], out: &mut [u8]) -> Answer
+    ensures { λ r. ⌜ Hashed (now (msg .entry)) (now (out .entry)) r (now (out .exit)) ⌝ }
+{
+    sha256::hash(msg, out)
+}
+
+// The keys of a list of codes, 20 octets each, into the front of out; answers the count.
+pub fn read_list(text: &[u8], out: &mut [u8]) -> Answer
+    ensures { λ r. ⌜ Read (now (text .entry)) (now (out .entry)) r (now (out .exit)) ⌝ }
+{
+    codes::read_list(text, out)
+}
+
+// The digest of a key list, 20 octets a key, into exactly 32 octets; answers the number of keys.
+pub fn digest(keys: &[u8], out: &mut [u8]) -> Answer
+    ensures { λ r. ⌜ Digested (now (keys .entry)) (now (out .entry)) r (now (out .exit)) ⌝ }
+{
+    tree::digest(keys, out)
+}
+
+#[no_mangle]
+pub extern "C" fn sagebutton_hash(msg: &[u8], out: &mut [u8]) -> u64
+    ensures { λ r. ⌜ Packed (λ a. Hashed (now (msg .entry)) (now (out .entry)) a (now (out .exit))) r ⌝ }
+{
+    answer::pack(hash(msg, out))
+}
+
+#[no_mangle]
+pub extern "C" fn sagebutton_read_list(text: &[u8], out: &mut [u8]) -> u64
+    ensures { λ r. ⌜ Packed (λ a. Read (now (text .entry)) (now (out .entry)) a (now (out .exit))) r ⌝ }
+{
+    answer::pack(read_list(text, out))
+}
+
+#[no_mangle]
+pub extern "C" fn sagebutton_digest(keys: &[u8], out: &mut [u8]) -> u64
+    ensures { λ r. ⌜ Packed (λ a. Digested (now (keys .entry)) (now (out .entry)) a (now (out .exit))) r ⌝ }
+{
+    answer::pack(digest(keys, out))
+}
