@@ -82,19 +82,31 @@ reading-listing room text ks e =
       ascending = keys-ascend none ks s (rw (w .its-keys) at (l .order));
     }
 
+keys-accepted : (r : Reading) (ks : List Octets) → r ≡ accepted ks → keys r ≡ flatten ks
+unfolding keys
+keys-accepted r ks e = rw e
+
+module _ (text out out′ : Octets) (n : ℕ) (ks : List Octets) (is : reading (length out) text ≡ accepted ks) (many : length ks ≡ n)
+    (o : out′ ≡ written (Done n) (keys (reading (length out) text)) out) where
+  keys-admitted : admit 20 3000 (take (20 * n) out′) ≡ admitted ks
+  unfolding written
+  keys-admitted =
+      let l = reading-listing (length out) text ks is in
+      let n20 : length (flatten ks) ≡ 20 * n = omega (arith, flatten-length 20 ks (l .sized)) in
+      let f : out′ ≡ flatten ks ++ drop (length (flatten ks)) out = rw (keys-accepted (reading (length out) text) ks is) at o in
+      rw (f, take-at (flatten ks) (drop (length (flatten ks)) out) (20 * n) n20) (listing-admitted 20 3000 ks (omega arith) l)
+
+  digest-of-keys : (d : Octets) → length d ≡ 32 → (r : Answer) (d′ : Octets) → Digested (take (20 * n) out′) d r d′ → (r ≡ Done n) × (d′ ≡ digest sha256 ks)
+  unfolding written digest-answer digest-octets
+  digest-of-keys d d32 r d′ g =
+      let done : r ≡ Done n = g .answered ∙ rw (eq-eqb (length d) 32 d32, keys-admitted) (ap Done many) in
+      let w : d′ ≡ written (Done n) (digest hash (entries-of (admit 20 3000 (take (20 * n) out′)))) d = rw done at (g .left) in
+      let v : d′ ≡ digest sha256 ks ++ drop (length (digest sha256 ks)) d = rw keys-admitted at w in
+      let none-left : drop (length (digest sha256 ks)) d ≡ [] = drop-of-length-le d {i = length (digest sha256 ks)} (omega (arith, digest-length sha256 sha256-length ks)) in
+      (done, v ∙ rw none-left (append-nil (digest sha256 ks)))
+
 pub read-lists-have-digests : Read-lists-have-digests
-unfolding written digest-answer digest-octets keys
 read-lists-have-digests text out n out′ r d d32 a d′ g =
     let t = answer-done (reading (length out) text) n (sym (r .answered)) in
-    let ks = t .those in
-    let l = reading-listing (length out) text ks (t .is) in
-    let n20 : length (flatten ks) ≡ 20 * n = omega (arith, flatten-length 20 ks (l .sized), t .many) in
-    let k : keys (reading (length out) text) ≡ flatten ks = rw (t .is) in
-    let o : out′ ≡ flatten ks ++ drop (length (flatten ks)) out = rw k at (r .left) in
-    let front : take (20 * n) out′ ≡ flatten ks = rw o (take-at (flatten ks) (drop (length (flatten ks)) out) (20 * n) n20) in
-    let adm : admit 20 3000 (take (20 * n) out′) ≡ admitted ks = rw front (listing-admitted 20 3000 ks (omega arith) l) in
-    let done : a ≡ Done n = g .answered ∙ rw (eq-eqb (length d) 32 d32, adm) (ap Done (t .many)) in
-    let w : d′ ≡ written (Done n) (digest hash (entries-of (admit 20 3000 (take (20 * n) out′)))) d = rw done at (g .left) in
-    let v : d′ ≡ digest sha256 ks ++ drop (length (digest sha256 ks)) d = rw adm at w in
-    let none-left : drop (length (digest sha256 ks)) d ≡ [] = drop-of-length-le d (omega (arith, digest-length sha256 sha256-length ks)) in
-    record { keys = ks; read = t .is; answered = done; written = v ∙ rw none-left (append-nil (digest sha256 ks)) }
+    let h = digest-of-keys text out out′ n (t .those) (t .is) (t .many) (r .left) d d32 a d′ g in
+    record { keys = t .those; read = t .is; answered = h .0; written = h .1 }

@@ -5,6 +5,7 @@ ghost use lib.ListN.{length};
 ghost use Rattle.octets.specs.Put.{Wrote};
 ghost use Rattle.show.specs.Decimal.{decimal};
 ghost use Rattle.show.specs.Hex.{hex-digit, hex};
+ghost use Rattle.show.specs.Refusal.{refusal-line};
 
 // The digit of a number below 16, in lower case.
 fn digit_of(n: u8) -> u8
@@ -40,4 +41,16 @@ pub fn put_hex(out: &mut [u8], at: usize, src: &[u8]) -> usize
         i += 1;
     }
     p
+}
+
+// Writes the line of a refusal at the front of out, and returns its length.
+pub fn put_refusal(out: &mut [u8], number: u16, place: u32) -> usize
+    requires { ⌜ 25 ≤ length (now out) ⌝ }
+    ensures { λ r. ⌜ Wrote (now (out .entry)) 0 (refusal-line number place) (now (out .exit)) r ⌝ }
+{
+    let a = octets::put(out, 0, b"refused ");
+    let b = put_decimal(out, a, number as u32);
+    let c = octets::put(out, b, b" ");
+    let d = put_decimal(out, c, place);
+    octets::put(out, d, b"\n")
 }
