@@ -1,20 +1,18 @@
 -- What acceptance says of a text, and its keys line by line.
 use mathlib.Core.Path.{_≡_, refl, sym, ap, _∙_}
-use mathlib.Core.Bool.{Bool, true, false, _&&_}
-use mathlib.Core.List.{List, [], _∷_, _++_, flatten}
+use mathlib.Core.Bool.{true, _&&_}
+use mathlib.Core.List.{List, [], _∷_, flatten}
 use mathlib.Core.Option.{Option, none, some}
-use Prim.Native.Nat.{ℕ, zero, suc, _+_, _-_, _*_, _≤_, _<_}
+use Prim.Native.Nat.{ℕ, zero, suc, _-_, _*_, _≤_, _<_}
 use native.Mathlib.Omega.{arith}
 use borrow.Author.Tests.{ltb-false, eqb-true, eqb-false}
 use lib.Dec.{ltb, eqb}
-use lib.ListN.{length, take, drop, length-append, length-take, length-drop}
-use Rattle.answer.specs.declared.Answer.{Answer}
-use Rattle.answer.specs.declared.Answer.the-variants.{Done, Refused}
+use lib.ListN.{length, take, drop, length-append}
+use Rattle.answer.specs.declared.Answer.the-variants.{Done}
 use Rattle.octets.specs.Order.{Octets, same}
-use Rattle.octets.proofs.OrderLaws.{same-true}
 use Rattle.codes.specs.Code.{key-of}
 use Rattle.codes.specs.Count.{is-count, number}
-use Rattle.codes.specs.Text.{Reading, accepted, refused, before-LF, ended, line, rest, fault, more, codes, counted, second-line, opening, reading}
+use Rattle.codes.specs.Text.{Reading, accepted, refused, ended, line, rest, fault, more, codes, counted, second-line, opening, reading}
 use Rattle.codes.specs.Read.{answer, keys}
 use Rattle.codes.proofs.Tests.{both, passed, held}
 use Rattle.codes.proofs.CodeLaws.{key-of-length}

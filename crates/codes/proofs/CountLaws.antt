@@ -1,7 +1,6 @@
 -- The number that a count's digits make, digit by digit.
-use mathlib.Core.Path.{_≡_, refl, sym, ap, _∙_}
-use mathlib.Core.Bool.{Bool, true, false, _&&_, _||_, not}
-use mathlib.Core.List.{List, [], _∷_}
+use mathlib.Core.Path.{_≡_}
+use mathlib.Core.Bool.{true, false, _&&_, _||_, not}
 use Prim.Native.Nat.{ℕ, zero, suc, _+_, _-_, _*_, _^_, _≤_, _<_}
 use native.Mathlib.Numerals.{add-one}
 use native.Mathlib.Omega.{arith}
@@ -11,7 +10,7 @@ use lib.ListN.{length, drop, getD, drop-of-length-le}
 use lib.Seq.{drop-cons}
 use Rattle.octets.specs.Order.{Octets}
 use Rattle.codes.specs.Code.{within, all, digit}
-use Rattle.codes.specs.Count.{is-count, number-after, number}
+use Rattle.codes.specs.Count.{is-count, number-after}
 use Rattle.codes.proofs.Tests.{both}
 
 pub within-true : (a b n : ℕ) → within a b n ≡ true → (a ≤ n) × (n ≤ b)

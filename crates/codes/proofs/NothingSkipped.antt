@@ -1,28 +1,28 @@
 -- Nothing is skipped: an accepted text is the writing of its keys' codes, and the writing of codes is accepted. Line by line: an
 -- ended line and what follows its LF make up the text again, and a code is its key without the zeros.
 use mathlib.Core.Path.{_≡_, refl, sym, ap, ap₂, _∙_}
-use mathlib.Core.Bool.{Bool, true, false, cond, _&&_}
-use mathlib.Core.List.{List, [], _∷_, _++_, map, append-nil}
+use mathlib.Core.Bool.{Bool, true, false, cond}
+use mathlib.Core.List.{List, [], _∷_, _++_, map}
 use mathlib.Core.Option.{Option, none, some}
-use Prim.Native.Nat.{ℕ, zero, suc, _+_, _-_, _*_, _≤_, _<_, suc-le-suc}
+use Prim.Native.Nat.{ℕ, zero, suc, _+_, _-_, _*_, _≤_, _<_}
 use native.Mathlib.Nat.{le-of-suc-le-suc, not-suc-le-zero}
 use native.Mathlib.Omega.{arith}
-use borrow.Author.Tests.{lt-ltb, le-ltb, ltb-true, ne-eqb, eq-eqb, eqb-true}
-use lib.Dec.{ltb, eqb}
+use borrow.Author.Tests.{lt-ltb, le-ltb, ltb-true, ne-eqb, eqb-true}
+use lib.Dec.{eqb}
 use lib.ListN.{length, take, drop, getD, replicate, length-append, length-map, take-append-drop}
 use lib.Seq.{split-at, take-at, drop-at}
-use Rattle.octets.specs.Order.{Octets, same}
+use Rattle.octets.specs.Order.{Octets}
 use Rattle.octets.proofs.OrderLaws.{same-true, same-refl}
 use Rattle.codes.specs.Code.{within, all, digit, letter, hyphen, character, is-code, key-of}
-use Rattle.codes.specs.Count.{is-count, number}
-use Rattle.codes.specs.Text.{Reading, accepted, refused, before-LF, ended, line, rest, above, fault, more, codes, counted, second-line, opening, reading}
+use Rattle.codes.specs.Count.{number}
+use Rattle.codes.specs.Text.{accepted, before-LF, ended, line, rest, above, fault, more, codes, counted, second-line, opening, reading}
 use Rattle.show.specs.Decimal.{decimal}
-use Rattle.codes.specs.Writing.{code-lines, text-of, code-of, all-codes, ascending, Listing, Whole, Nothing-skipped, Nothing-refused}
+use Rattle.codes.specs.Writing.{code-lines, text-of, code-of, all-codes, ascending, Nothing-skipped, Nothing-refused}
 use Rattle.codes.proofs.Tests.{both, held}
-use Rattle.codes.proofs.CountLaws.{count-parts, Count}
-use Rattle.codes.proofs.DecimalLaws.{decimal-number, decimal-counts, Counts}
-use Rattle.codes.proofs.TextLaws.{code-parts, Code, sound-line, Sound-line, line-sound, zero-no-character}
-use Rattle.codes.proofs.AcceptedLaws.{Accepted, reading-accepted, more-accepted, line-keys-length, codes-sound}
+use Rattle.codes.proofs.CountLaws.{count-parts}
+use Rattle.codes.proofs.DecimalLaws.{decimal-number, decimal-counts}
+use Rattle.codes.proofs.TextLaws.{code-parts, sound-line, line-sound, zero-no-character}
+use Rattle.codes.proofs.AcceptedLaws.{reading-accepted, more-accepted, line-keys-length, codes-sound}
 
 -- A code is its key without the zeros
 

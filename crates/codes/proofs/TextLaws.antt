@@ -1,26 +1,24 @@
 -- The text's definitions in the code's terms: lines at an offset, one more line of the judgement, and what acceptance says.
 use mathlib.Core.Path.{_≡_, refl, sym, ap, _∙_}
-use mathlib.Core.Bool.{Bool, true, false, cond, _&&_}
-use mathlib.Core.List.{List, [], _∷_, _++_, flatten}
+use mathlib.Core.Bool.{Bool, true, false, cond}
+use mathlib.Core.List.{[], _∷_}
 use mathlib.Core.Option.{Option, none, some}
-use Prim.Native.Nat.{ℕ, zero, suc, _+_, _-_, _*_, _≤_, _<_, compare, Ordering, Ordering·lt, Ordering·eq, Ordering·gt}
+use Prim.Native.Nat.{ℕ, zero, suc, _+_, _-_, _≤_, _<_, Ordering·lt}
 use native.Mathlib.Numerals.{add-one}
 use native.Mathlib.Omega.{arith}
-use borrow.Author.Tests.{lt-ltb, le-ltb, ltb-true, ltb-false, eq-eqb, ne-eqb, eqb-true, eqb-false}
-use lib.Dec.{ltb, eqb}
-use lib.ListN.{length, take, drop, getD, replicate, drop-of-length-le, length-drop, length-append, length-take}
+use borrow.Author.Tests.{lt-ltb, le-ltb, ltb-true, eq-eqb, ne-eqb}
+use lib.ListN.{length, take, drop, getD, replicate, drop-of-length-le, length-drop, length-take}
 use lib.Seq.{drop-cons, drop-drop}
 use Rattle.answer.specs.declared.Answer.{Answer}
 use Rattle.answer.specs.declared.Answer.the-variants.{Done, Refused}
 use Rattle.answer.specs.Refusals.{not-ascending, not-a-code, lines}
 use Rattle.octets.specs.Order.{Octets, order, same, is-less}
 use Rattle.octets.proofs.OrderLaws.{lt-compare, same-true}
-use Rattle.codes.specs.Code.{within, all, hyphen, character, digit, letter, apart, is-code, key-of}
+use Rattle.codes.specs.Code.{within, all, hyphen, character, digit, letter, is-code, key-of}
 use Rattle.codes.specs.Count.{is-count, number}
-use Rattle.codes.specs.Text.{Reading, accepted, refused, before-LF, ended, line, rest, above, fault, more, codes, counted, second-line, opening, reading}
-use Rattle.codes.specs.Read.{answer, keys}
-use Rattle.codes.proofs.Tests.{both, passed, held}
-use Rattle.codes.proofs.CodeLaws.{key-of-length}
+use Rattle.codes.specs.Text.{Reading, accepted, refused, before-LF, ended, line, rest, above, fault, more, codes, counted, second-line, opening}
+use Rattle.codes.specs.Read.{answer}
+use Rattle.codes.proofs.Tests.{both}
 use Rattle.codes.proofs.CountLaws.{within-true}
 
 -- Lines at an offset

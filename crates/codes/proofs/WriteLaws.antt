@@ -1,8 +1,8 @@
 -- The writing loop: i lines are written, up to `next`. What all the keys have before `next` stands in the buffer, and what they
 -- have from there on is the keys of the lines that are left.
 use mathlib.Core.Path.{_≡_, refl, sym, ap, _∙_}
-use mathlib.Core.List.{List, [], _∷_, _++_, flatten}
-use Prim.Native.Nat.{ℕ, zero, suc, _+_, _-_, _*_, _≤_, _<_}
+use mathlib.Core.List.{_++_, flatten}
+use Prim.Native.Nat.{ℕ, suc, _+_, _-_, _*_, _≤_, _<_}
 use native.Mathlib.Omega.{arith}
 use lib.ListN.{length, take, drop}
 use lib.Seq.{take-at, drop-at, take-add, drop-drop, length-take-le, take-all}
@@ -16,7 +16,7 @@ use Rattle.codes.specs.Text.{before-LF, line, rest, reading}
 use Rattle.codes.specs.Read.{answer, keys}
 use Rattle.codes.proofs.CodeLaws.{key-of-length}
 use Rattle.codes.proofs.TextLaws.{line-at, rest-at, ended-before}
-use Rattle.codes.proofs.AcceptedLaws.{Sound, line-keys, flatten-length, Writable, writable}
+use Rattle.codes.proofs.AcceptedLaws.{Sound, line-keys, flatten-length, writable}
 
 pub record Writing (text : Octets) (n : ℕ) (out₀ out : Octets) (at i next : ℕ) : Type 0 where
   pub few : i ≤ n

@@ -1,6 +1,6 @@
 -- 01, "The list as text": what reading answers and writes.
 use mathlib.Core.Path.{_≡_}
-use mathlib.Core.List.{List, [], flatten}
+use mathlib.Core.List.{[], flatten}
 use lib.ListN.{length}
 use Rattle.answer.specs.declared.Answer.{Answer}
 use Rattle.answer.specs.declared.Answer.the-variants.{Done, Refused}

@@ -1,17 +1,17 @@
 -- The demands follow from the promises' definitions: a refusal's buffer is the buffer, and a text's keys are a listing.
-use mathlib.Core.Path.{_≡_, refl, sym, ap, _∙_}
-use mathlib.Core.Bool.{Bool, true, false, cond, _&&_}
+use mathlib.Core.Path.{_≡_, sym, ap, _∙_}
+use mathlib.Core.Bool.{true}
 use mathlib.Core.List.{List, [], _∷_, _++_, map, flatten, append-nil}
 use mathlib.Core.Option.{Option, none, some}
-use Prim.Native.Nat.{ℕ, zero, suc, _+_, _*_, _≤_, _<_, Ordering, Ordering·lt, Ordering·eq, Ordering·gt}
+use Prim.Native.Nat.{ℕ, _+_, _*_}
 use native.Mathlib.Omega.{arith}
 use borrow.Author.Tests.{eq-eqb}
 use lib.ListN.{length, take, drop, length-map, drop-of-length-le}
 use lib.Seq.{take-at, take-all}
 use Rattle.answer.specs.declared.Answer.{Answer}
-use Rattle.answer.specs.declared.Answer.the-variants.{Done, Refused}
+use Rattle.answer.specs.declared.Answer.the-variants.{Done}
 use Rattle.answer.specs.Answer.{written}
-use Rattle.octets.specs.Order.{Octets, order, is-less}
+use Rattle.octets.specs.Order.{Octets, order}
 use Rattle.octets.proofs.OrderLaws.{is-less-true}
 use Rattle.sha256.specs.Fips180.{sha256}
 use Rattle.sha256.proofs.Fips180Laws.{sha256-length}
@@ -24,18 +24,18 @@ use Rattle.attester.proofs.AdmissionLaws.{listing-admitted}
 use Rattle.attester.proofs.EntryLaws.{flatten-length}
 use Rattle.attester.proofs.LabelLaws.{digest-length}
 use Rattle.codes.specs.Code.{is-code, key-of}
-use Rattle.codes.specs.Text.{Reading, accepted, refused, above, reading}
-use Rattle.codes.specs.Read.{Read, answer, keys}
+use Rattle.codes.specs.Text.{Reading, accepted, above, reading}
+use Rattle.codes.specs.Read.{keys}
 use Rattle.codes.specs.Writing.{all-codes, ascending, code-of}
 use Rattle.codes.proofs.Tests.{both}
 use Rattle.codes.proofs.CodeLaws.{key-of-length}
 use Rattle.codes.proofs.TextLaws.{code-parts}
 use Rattle.codes.proofs.AcceptedLaws.{answer-done}
 use Rattle.codes.proofs.NothingSkipped.{nothing-skipped, nothing-refused}
-use Rattle.tree.specs.Admitted.{answer-of, entries-of}
+use Rattle.tree.specs.Admitted.{entries-of}
 use Rattle.tree.specs.Digest.{Digested, digest-answer, digest-octets}
-use Rattle.tree.specs.Edition.{hash, width, most}
-use Rattle.sagebutton.specs.Demands.{Demand-1, Digest-of-reading, Read-lists-have-digests}
+use Rattle.tree.specs.Edition.{hash}
+use Rattle.sagebutton.specs.Demands.{Demand-1, Read-lists-have-digests}
 
 pub demand-1 : Demand-1
 unfolding written

@@ -1,5 +1,5 @@
 -- A promise that gives the answer and the buffer by definitions of the inputs is met by those alone.
-use mathlib.Core.Path.{_≡_, refl}
+use mathlib.Core.Path.{refl}
 use lib.ListN.{length}
 use Rattle.answer.specs.Answer.{written}
 use Rattle.sha256.specs.Fips180.{sha256}

@@ -9,15 +9,21 @@ use lib.ListN.{length, getD, replicate, take, drop}
 use Rattle.octets.specs.Order.{Octets}
 use Rattle.sha256.specs.declared.compress.State.{State}
 
-infixl 60 _AND_ _OR_ _XOR_
-infixl 65 _⊞_
+-- §2.2.2: the shifts of a word, which lose the bits that they move out of it
 infixl 70 _≪_ _≫_
+abbrev pub _≪_ : ℕ → ℕ → ℕ
+x ≪ n = x * 2 ^ n % 2 ^ 32
+
+abbrev pub _≫_ : ℕ → ℕ → ℕ
+x ≫ n = x / 2 ^ n
+
 -- §3.1: the number x as n octets, the most significant first
 unfoldable pub octets : ℕ → ℕ → Octets
 octets zero x = []
 octets (suc n) x = x / 256 ^ n % 256 ∷ octets n x
 
 -- §3.2, 1: bitwise AND, OR, XOR and complement
+infixl 60 _AND_ _OR_ _XOR_
 abbrev pub _AND_ : ℕ → ℕ → ℕ
 x AND y = bitAnd x y
 
@@ -31,28 +37,22 @@ abbrev pub NOT : ℕ → ℕ
 NOT x = (2 ^ 32 - 1) - x
 
 -- §3.2, 2: addition modulo 2 ^ 32, the standard's +
+infixl 65 _⊞_
 abbrev pub _⊞_ : ℕ → ℕ → ℕ
 x ⊞ y = (x + y) % 2 ^ 32
-
--- §2.2.2: the shifts of a word, which lose the bits that they move out of it
-abbrev pub _≪_ : ℕ → ℕ → ℕ
-x ≪ n = x * 2 ^ n % 2 ^ 32
-
-abbrev pub _≫_ : ℕ → ℕ → ℕ
-x ≫ n = x / 2 ^ n
 
 -- §3.2, 3 and 4: right shift, and rotation to the right
 abbrev pub SHR : ℕ → ℕ → ℕ
 SHR n x = x ≫ n
 
-abbrev pub ROTR : ℕ → ℕ → ℕ
+unfoldable pub ROTR : ℕ → ℕ → ℕ
 ROTR n x = (x ≫ n) OR (x ≪ (32 - n))
 
 -- §4.1.2 (4.2) to (4.7): the six functions
-abbrev pub Ch : ℕ → ℕ → ℕ → ℕ
+unfoldable pub Ch : ℕ → ℕ → ℕ → ℕ
 Ch x y z = (x AND y) XOR (NOT x AND z)
 
-abbrev pub Maj : ℕ → ℕ → ℕ → ℕ
+unfoldable pub Maj : ℕ → ℕ → ℕ → ℕ
 Maj x y z = (x AND y) XOR (x AND z) XOR (y AND z)
 
 unfoldable pub Σ0 : ℕ → ℕ
@@ -88,6 +88,7 @@ zeros l = (959 - l % 512) % 512
 unfoldable pub padding : ℕ → Octets
 padding n = 0x80 ∷ replicate (zeros (8 * n) / 8) 0 ++ octets 8 (8 * n)
 
+-- §5.1.1: the padded message
 unfoldable pub padded : Octets → Octets
 padded m = m ++ padding (length m)
 
@@ -110,7 +111,7 @@ next w t = σ1 (getD w (t - 2) 0) ⊞ getD w (t - 7) 0 ⊞ σ0 (getD w (t - 15) 
 unfoldable pub W : Octets → List ℕ → ℕ → ℕ
 W b w t = cond (ltb t 16) (M b t) (next w t)
 
--- the first n words of the message schedule, W_0 to W_(n - 1)
+-- §6.2.2, 1: the first n words of the message schedule, W_0 to W_(n - 1)
 unfoldable pub schedule : Octets → ℕ → List ℕ
 schedule b zero = []
 schedule b (suc t) = schedule b t ++ (W b (schedule b t) t ∷ [])
@@ -126,7 +127,7 @@ unfoldable pub turn : State → ℕ → ℕ → State
 turn s k w =
     record { h = s .g; g = s .f; f = s .e; e = s .d ⊞ T1 s k w; d = s .c; c = s .b; b = s .a; a = T1 s k w ⊞ T2 s }
 
--- the first n turns, for t = 0 to n - 1
+-- §6.2.2, 2 and 3: the first n turns, for t = 0 to n - 1, on working variables that begin as the hash value
 unfoldable pub turns : State → List ℕ → ℕ → State
 turns s w zero = s
 turns s w (suc t) = turn (turns s w t) (getD K t 0) (getD w t 0)
@@ -149,15 +150,17 @@ added s H =
 unfoldable pub compress : State → Octets → State
 compress H b = added (turns H (schedule b 64) 64) H
 
--- the hash value after n blocks of p, from the hash value H before them
+-- §6.2.2: the hash value after n blocks of p, one after the other, from the hash value H before them
 unfoldable pub blocks : State → Octets → ℕ → State
 blocks H p zero = H
 blocks H p (suc i) = compress (blocks H p i) (block p i)
 
 -- §6.2.2, the digest: H_0 to H_7 joined
 unfoldable pub digest : State → Octets
-digest H = octets 4 (H .a) ++ octets 4 (H .b) ++ octets 4 (H .c) ++ octets 4 (H .d) ++ octets 4 (H .e) ++ octets 4 (H .f) ++ octets 4 (H .g) ++ octets 4 (H .h)
+digest H =
+    octets 4 (H .a) ++ octets 4 (H .b) ++ octets 4 (H .c) ++ octets 4 (H .d)
+    ++ octets 4 (H .e) ++ octets 4 (H .f) ++ octets 4 (H .g) ++ octets 4 (H .h)
 
--- §6.2: SHA-256
+-- §6.2: SHA-256 of m, the digest of all blocks of the padded message
 unfoldable pub sha256 : Octets → Octets
 sha256 m = digest (blocks H0 (padded m) (length (padded m) / 64))

@@ -1,14 +1,14 @@
 -- The hex digits of octets, octet by octet.
-use mathlib.Core.Path.{_≡_, refl, sym, ap, _∙_}
-use mathlib.Core.List.{List, [], _∷_, _++_}
-use Prim.Native.Nat.{ℕ, suc, _+_, _*_, _/_, _%_, _≤_, _<_}
+use mathlib.Core.Path.{_≡_, refl, ap}
+use mathlib.Core.List.{[], _∷_, _++_}
+use Prim.Native.Nat.{ℕ, _+_, _*_, _/_, _%_, _≤_, _<_}
 use native.Mathlib.Numerals.{add-one}
 use native.Mathlib.Omega.{arith}
 use lib.ListN.{length, take, getD, length-take}
-use lib.Seq.{take-suc, take-all}
+use lib.Seq.{take-suc}
 use Rattle.octets.specs.Order.{Octets}
 use Rattle.octets.specs.Put.{Wrote}
-use Rattle.octets.proofs.PutLaws.{wrote-more, wrote-none}
+use Rattle.octets.proofs.PutLaws.{wrote-more}
 use Rattle.show.specs.Hex.{hex-digit, hex}
 
 pub hex-length : (s : Octets) → length (hex s) ≡ 2 * length s

@@ -1,43 +1,33 @@
+-- Each case of the answer gives its number by computation, once the match has told which case it is.
 use native.Mathlib.Omega.{arith}
 use borrow.Author.Needs.{needs}
 use Rattle.answer.proofs.pack.Statement.{statement}
 use Rattle.answer.proofs.pack.Tie as tie
-use Rattle.answer.proofs.pack.Reads as reads
-use Rattle.answer.proofs.pack.Lts as lts
 
--- src/lib.rt:27:22
 enum-known-a : tie.Need-enum-known-a
 enum-known-a c = search needs
 
--- src/lib.rt:27:28
 cast-result : tie.Need-cast-result
 cast-result c = search needs
 
--- src/lib.rt:28:27
 enum-known-a-2 : tie.Need-enum-known-a-2
 enum-known-a-2 c = search needs
 
--- src/lib.rt:28:46
 cast-result-2 : tie.Need-cast-result-2
 cast-result-2 c = search needs
 
--- src/lib.rt:28:46
 mul-result : tie.Need-mul-result
 mul-result c = search needs
 
--- src/lib.rt:28:81
 cast-result-3 : tie.Need-cast-result-3
 cast-result-3 c = search needs
 
--- src/lib.rt:28:46
 add-result : tie.Need-add-result
 add-result c = search needs
 
--- src/lib.rt:23:1
 returns : tie.Need-returns
 returns c = rw (c .before .a .given .1) (omega arith)
 
--- src/lib.rt:23:1
 returns-2 : tie.Need-returns-2
 returns-2 c = rw (c .before .a2 .given .1)
 

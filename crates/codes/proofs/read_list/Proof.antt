@@ -1,4 +1,5 @@
-use mathlib.Core.Path.{_≡_, refl, sym, ap, _∙_}
+-- A refusal is the judgement's and nothing is written; an accepted text's keys are written to the front.
+use mathlib.Core.Path.{sym, _∙_}
 use native.Mathlib.Omega.{arith}
 use borrow.Author.Needs.{needs}
 use lib.ListN.{length}
@@ -8,41 +9,29 @@ use Rattle.codes.specs.Read.{keys}
 use Rattle.codes.proofs.WriteLaws.{written-done}
 use Rattle.codes.proofs.read_list.Statement.{statement}
 use Rattle.codes.proofs.read_list.Tie as tie
-use Rattle.codes.proofs.read_list.Reads as reads
-use Rattle.codes.proofs.read_list.Lts as lts
-use Rattle.codes.proofs.text.judge.Reads as judge-reads
-use Rattle.codes.proofs.write.write_keys.Reads as write-keys-reads
 
--- src/lib.rt:13:9
 judge-requires : tie.Need-judge-requires
 judge-requires c κs = search needs
 
--- src/lib.rt:14:22
 enum-known-a : tie.Need-enum-known-a
 enum-known-a c = search needs
 
--- src/lib.rt:15:9
 enum-told : tie.Need-enum-told
 enum-told c = search needs
 
--- src/lib.rt:15:9
 returns : tie.Need-returns
 unfolding written
 returns c = record { answered = c .before .before .judge .ensures; left = rw (c .enum-told .given .1) }
 
--- src/lib.rt:17:29
 cast-write-keys : tie.Need-cast-write-keys
 cast-write-keys c = omega arith
 
--- src/lib.rt:17:5
 write-keys-requires : tie.Need-write-keys-requires
 write-keys-requires c κs = sym (c .before .before .before .before .judge .ensures) ∙ c .before .before .a .given .1
 
--- src/lib.rt:10:1
 same-length : tie.Need-same-length
 same-length c = c .before .before .write-keys .kept .1 .1 .0
 
--- src/lib.rt:10:1
 returns-2 : tie.Need-returns-2
 returns-2 c = let a = c .before .before .before .before .before .before .before .before .before .before .args in record { answered = sym (c .before .before .before .before .before .a .given .1) ∙ c .before .before .before .before .before .before .before .judge .ensures; left = c .before .before .write-keys .ensures ∙ written-done _ (keys (reading (length (a .out .now)) (a .text .now))) (a .out .now) }
 

@@ -1,4 +1,5 @@
-use mathlib.Core.Path.{_≡_, refl, sym}
+-- The strings' rests from i on compare as the whole strings do; each way out of the loop decides the rests at once.
+use mathlib.Core.Path.{_≡_, refl}
 use Prim.Native.Nat.{_≤_, _-_}
 use native.Mathlib.Omega.{arith}
 use lib.ListN.{length, drop}
@@ -6,8 +7,6 @@ use Rattle.octets.specs.Order.{order}
 use Rattle.octets.proofs.CompareLaws.{stop-shorter, stop-longer, stop-equal, stop-less, stop-greater, turn}
 use Rattle.octets.proofs.compare.Statement.{statement}
 use Rattle.octets.proofs.compare.Tie as tie
-use Rattle.octets.proofs.compare.Reads as reads
-use Rattle.octets.proofs.compare.Lts as lts
 
 abbrev Inv-loop : tie.InvT-loop
 Inv-loop a b i₀ i = (i ≤ length a) × (order (drop i a) (drop i b) ≡ order a b)
@@ -15,59 +14,46 @@ Inv-loop a b i₀ i = (i ≤ length a) × (order (drop i a) (drop i b) ≡ order
 abbrev μ-loop : tie.MeasureT-loop
 μ-loop a b i₀ i = length a - i
 
--- src/lib.rt:22:5
 loop-holds : tie.Need-loop-holds Inv-loop μ-loop
 loop-holds c = (omega arith, refl)
 
--- src/lib.rt:24:13
 returns : tie.Need-returns Inv-loop μ-loop
 returns c = let l = c .before .before in stop-longer (l .before .args .a .now) (l .before .args .b .now) (l .loop .i) (l .loop .inv .1) (omega arith) (omega arith)
 
--- src/lib.rt:26:12
 shared-slice-read-if2 : tie.Need-shared-slice-read-if2 Inv-loop μ-loop
 shared-slice-read-if2 c = omega arith
 
--- src/lib.rt:26:19
 shared-slice-read-if2-2 : tie.Need-shared-slice-read-if2-2 Inv-loop μ-loop
 shared-slice-read-if2-2 c = omega arith
 
--- src/lib.rt:27:13
 returns-2 : tie.Need-returns-2 Inv-loop μ-loop
 returns-2 c = let l = c .before .before .before .before .before in
     stop-less (l .before .args .a .now) (l .before .args .b .now) (l .loop .i) (l .loop .inv .1) (omega arith) (omega arith) (c .if2 .taken)
 
--- src/lib.rt:29:12
 shared-slice-read-if3 : tie.Need-shared-slice-read-if3 Inv-loop μ-loop
 shared-slice-read-if3 c = omega arith
 
--- src/lib.rt:29:19
 shared-slice-read-if3-2 : tie.Need-shared-slice-read-if3-2 Inv-loop μ-loop
 shared-slice-read-if3-2 c = omega arith
 
--- src/lib.rt:30:13
 returns-3 : tie.Need-returns-3 Inv-loop μ-loop
 returns-3 c = let l = c .before .before .before .before .before .before .before .before in
     stop-greater (l .before .args .a .now) (l .before .args .b .now) (l .loop .i) (l .loop .inv .1) (omega arith) (omega arith) (c .if3 .taken)
 
--- src/lib.rt:32:9
 add-i : tie.Need-add-i Inv-loop μ-loop
 add-i c = omega arith
 
--- src/lib.rt:22:5
 loop-less : tie.Need-loop-less Inv-loop μ-loop
 loop-less c = omega arith
 
--- src/lib.rt:22:5
 loop-again : tie.Need-loop-again Inv-loop μ-loop
 loop-again c = let l = c .before .before .before .before .before .before .before .before in
     (omega arith, turn (l .before .args .a .now) (l .before .args .b .now) (l .loop .i) (l .loop .inv .1) (omega arith) (omega arith) (c .before .before .before .if2 .left) (c .if3 .left))
 
--- src/lib.rt:35:9
 returns-4 : tie.Need-returns-4 Inv-loop μ-loop
 returns-4 c = let l = c .before .before in
     stop-shorter (l .before .args .a .now) (l .before .args .b .now) (l .loop .i) (l .loop .inv .1) (omega arith) (c .if4 .taken)
 
--- src/lib.rt:18:1
 returns-5 : tie.Need-returns-5 Inv-loop μ-loop
 returns-5 c = let l = c .before .before in
     stop-equal (l .before .args .a .now) (l .before .args .b .now) (l .loop .i) (l .loop .inv .1) (omega arith) (omega arith)

@@ -1,26 +1,20 @@
-use native.Mathlib.Omega.{arith}
+-- The definition's test is the code's.
 use borrow.Author.Tests.{lt-ltb, le-ltb}
 use Rattle.show.specs.Hex.{hex-digit}
 use borrow.Author.Needs.{needs}
 use Rattle.show.proofs.digit_of.Statement.{statement}
 use Rattle.show.proofs.digit_of.Tie as tie
-use Rattle.show.proofs.digit_of.Reads as reads
-use Rattle.show.proofs.digit_of.Lts as lts
 
--- src/lib.rt:14:17
 add-result : tie.Need-add-result
 add-result c = search needs
 
--- src/lib.rt:14:33
 add-result-2 : tie.Need-add-result-2
 add-result-2 c = search needs
 
--- src/lib.rt:10:1
 returns : tie.Need-returns
 unfolding hex-digit
 returns c = rw (lt-ltb (c .before .args .n) 10 (c .if1 .taken))
 
--- src/lib.rt:10:1
 returns-2 : tie.Need-returns-2
 unfolding hex-digit
 returns-2 c = rw (le-ltb (c .before .args .n) 10 (c .if1 .left))

@@ -1,6 +1,7 @@
+-- Five writes, one where the last ended: their texts together are the line. Room is counted from the most digits a number can have.
 use native.Mathlib.Omega.{arith}
 use mathlib.Core.List.{[], _∷_, _++_}
-use lib.ListN.{length, length-append}
+use lib.ListN.{length-append}
 use Rattle.octets.proofs.PutLaws.{wrote-more}
 use Rattle.show.specs.Decimal.{decimal}
 use Rattle.show.specs.Refusal.{refused-word, refusal-line}
@@ -8,34 +9,24 @@ use Rattle.show.proofs.DecimalLaws.{decimal-length}
 use borrow.Author.Needs.{needs}
 use Rattle.show.proofs.put_refusal.Statement.{statement}
 use Rattle.show.proofs.put_refusal.Tie as tie
-use Rattle.show.proofs.put_refusal.Reads as reads
-use Rattle.show.proofs.put_refusal.Lts as lts
-use Rattle.octets.proofs.put.Reads as put-reads
-use Rattle.show.proofs.put_decimal.Reads as put-decimal-reads
 
--- src/lib.rt:51:33
 slice-aggregate-put : tie.Need-slice-aggregate-put
 slice-aggregate-put c = search needs
 
--- src/lib.rt:51:9
 put-requires : tie.Need-put-requires
 put-requires c κs = search needs
 
--- src/lib.rt:52:9
 put-decimal-requires : tie.Need-put-decimal-requires
 put-decimal-requires c κs = let s = c .before .before .before .before .before .before .before in
     omega (arith, s .pre, c .before .before .before .put .ensures .ends, c .before .before .before .put .kept, decimal-length 4 (s .args .number) (omega (arith, s .fits .number .fits)))
 
--- src/lib.rt:53:33
 slice-aggregate-put-2 : tie.Need-slice-aggregate-put-2
 slice-aggregate-put-2 c = search needs
 
--- src/lib.rt:53:9
 put-requires-2 : tie.Need-put-requires-2
 put-requires-2 c κs = let s = c .before .before .before .before .before .before .before .before .before .before .before .before in
     omega (arith, s .pre, c .before .before .before .before .before .before .before .before .put .ensures .ends, c .before .before .before .before .before .before .before .before .put .kept, c .before .before .before .before .put-decimal .ensures .ends, c .before .before .before .before .put-decimal .kept, decimal-length 4 (s .args .number) (omega (arith, s .fits .number .fits)))
 
--- src/lib.rt:54:9
 put-decimal-requires-2 : tie.Need-put-decimal-requires-2
 put-decimal-requires-2 c κs = let s = c .before .before .before .before .before .before .before .before .before .before .before .before .before .before .before .before in
     omega (
@@ -51,11 +42,9 @@ put-decimal-requires-2 c κs = let s = c .before .before .before .before .before
       decimal-length 9 (s .args .place) (omega (arith, s .fits .place .fits)),
     )
 
--- src/lib.rt:55:25
 slice-aggregate-put-3 : tie.Need-slice-aggregate-put-3
 slice-aggregate-put-3 c = search needs
 
--- src/lib.rt:55:5
 put-requires-3 : tie.Need-put-requires-3
 put-requires-3 c κs = let s = c .before .before .before .before .before .before .before .before .before .before .before .before .before .before .before .before .before .before .before .before .before in
     omega (
@@ -73,11 +62,9 @@ put-requires-3 c κs = let s = c .before .before .before .before .before .before
       decimal-length 9 (s .args .place) (omega (arith, s .fits .place .fits)),
     )
 
--- src/lib.rt:47:1
 same-length : tie.Need-same-length
 same-length c = search needs
 
--- src/lib.rt:47:1
 returns : tie.Need-returns
 unfolding refusal-line
 returns c = let s = c .before .before .before .before .before .before .before .before .before .before .before .before .before .before .before .before .before .before .before .before .before .before .before .before in

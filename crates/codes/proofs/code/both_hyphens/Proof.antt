@@ -1,16 +1,13 @@
+-- The second half of the test is the answer where the first half held.
 use borrow.Author.Tests.{eq-eqb, ne-eqb}
 use Rattle.codes.specs.Code.{hyphen}
 use Rattle.codes.proofs.code.both_hyphens.Statement.{statement}
 use Rattle.codes.proofs.code.both_hyphens.Tie as tie
-use Rattle.codes.proofs.code.both_hyphens.Reads as reads
-use Rattle.codes.proofs.code.both_hyphens.Lts as lts
 
--- src/code.rt:49:1
 returns : tie.Need-returns
 unfolding hyphen
 returns c = rw (eq-eqb (c .before .args .a) 45 (c .if1 .taken))
 
--- src/code.rt:49:1
 returns-2 : tie.Need-returns-2
 unfolding hyphen
 returns-2 c = rw (ne-eqb (c .before .args .a) 45 (c .if1 .left))

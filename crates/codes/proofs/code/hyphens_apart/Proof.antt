@@ -1,3 +1,4 @@
+-- From the octet before i on, hyphens are apart exactly if they are in the whole string.
 use mathlib.Core.Path.{_≡_, refl, sym, _∙_}
 use Prim.Native.Nat.{_≤_, _-_}
 use native.Mathlib.Omega.{arith}
@@ -7,9 +8,6 @@ use Rattle.codes.specs.Code.{apart}
 use Rattle.codes.proofs.CodeLaws.{apart-stop, apart-more, apart-end}
 use Rattle.codes.proofs.code.hyphens_apart.Statement.{statement}
 use Rattle.codes.proofs.code.hyphens_apart.Tie as tie
-use Rattle.codes.proofs.code.hyphens_apart.Reads as reads
-use Rattle.codes.proofs.code.hyphens_apart.Lts as lts
-use Rattle.codes.proofs.code.both_hyphens.Reads as both-hyphens-reads
 
 abbrev Inv-loop : tie.InvT-loop
 Inv-loop s i₀ i = (1 ≤ i) × (i ≤ length s) × (apart (drop (i - 1) s) ≡ apart s)
@@ -17,45 +15,35 @@ Inv-loop s i₀ i = (1 ≤ i) × (i ≤ length s) × (apart (drop (i - 1) s) ≡
 abbrev μ-loop : tie.MeasureT-loop
 μ-loop s i₀ i = length s - i
 
--- src/code.rt:61:5
 loop-holds : tie.Need-loop-holds Inv-loop μ-loop
 loop-holds c = (omega arith, omega arith, refl)
 
--- src/code.rt:62:27
 sub-both-hyphens : tie.Need-sub-both-hyphens Inv-loop μ-loop
 sub-both-hyphens c = omega arith
 
--- src/code.rt:62:25
 shared-slice-read-both-hyphens : tie.Need-shared-slice-read-both-hyphens Inv-loop μ-loop
 shared-slice-read-both-hyphens c = omega arith
 
--- src/code.rt:62:35
 shared-slice-read-both-hyphens-2 : tie.Need-shared-slice-read-both-hyphens-2 Inv-loop μ-loop
 shared-slice-read-both-hyphens-2 c = omega arith
 
--- src/code.rt:62:12
 both-hyphens-requires : tie.Need-both-hyphens-requires Inv-loop μ-loop
 both-hyphens-requires c κs = search needs
 
--- src/code.rt:63:13
 returns : tie.Need-returns Inv-loop μ-loop
 returns c = let l = c .before .before .before .before .before in
     apart-stop (l .before .before .args .s .now) (l .loop .i) (omega arith) (l .loop .inv .2) (omega arith) (sym (c .before .both-hyphens .ensures) ∙ c .if1 .taken)
 
--- src/code.rt:65:9
 add-i : tie.Need-add-i Inv-loop μ-loop
 add-i c = omega arith
 
--- src/code.rt:61:5
 loop-less : tie.Need-loop-less Inv-loop μ-loop
 loop-less c = omega arith
 
--- src/code.rt:61:5
 loop-again : tie.Need-loop-again Inv-loop μ-loop
 loop-again c = let l = c .before .before .before .before .before in
     (omega arith, omega arith, apart-more (l .before .before .args .s .now) (l .loop .i) (omega arith) (l .loop .inv .2) (omega arith) (sym (c .before .both-hyphens .ensures) ∙ c .if1 .left))
 
--- src/code.rt:56:1
 returns-2 : tie.Need-returns-2 Inv-loop μ-loop
 returns-2 c = let l = c .before in
     apart-end (l .before .before .args .s .now) (l .loop .i) (omega arith) (l .loop .inv .2) (omega arith)

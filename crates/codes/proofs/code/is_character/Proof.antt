@@ -1,31 +1,23 @@
+-- The alternatives are tried in the definition's order.
 use Rattle.codes.specs.Code.{character, hyphen}
 use borrow.Author.Needs.{needs}
 use Rattle.codes.proofs.code.is_character.Statement.{statement}
 use Rattle.codes.proofs.code.is_character.Tie as tie
-use Rattle.codes.proofs.code.is_character.Reads as reads
-use Rattle.codes.proofs.code.is_character.Lts as lts
-use Rattle.codes.proofs.code.is_digit.Reads as is-digit-reads
-use Rattle.codes.proofs.code.is_letter.Reads as is-letter-reads
 
--- src/code.rt:25:8
 is-digit-requires : tie.Need-is-digit-requires
 is-digit-requires c κs = search needs
 
--- src/code.rt:26:9
 returns : tie.Need-returns
 unfolding character hyphen
 returns c = rw (← c .before .is-digit .ensures, c .if1 .taken)
 
--- src/code.rt:28:8
 is-letter-requires : tie.Need-is-letter-requires
 is-letter-requires c κs = search needs
 
--- src/code.rt:29:9
 returns-2 : tie.Need-returns-2
 unfolding character hyphen
 returns-2 c = rw (← c .before .before .before .is-digit .ensures, ← c .before .is-letter .ensures, c .before .before .if1 .left, c .if2 .taken)
 
--- src/code.rt:22:1
 returns-3 : tie.Need-returns-3
 unfolding character hyphen
 returns-3 c = rw (← c .before .before .before .is-digit .ensures, ← c .before .is-letter .ensures, c .before .before .if1 .left, c .if2 .left)

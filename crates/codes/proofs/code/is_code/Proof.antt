@@ -1,3 +1,4 @@
+-- The tests are the definition's, in its order; each that fails makes the whole false.
 use mathlib.Core.Path.{sym, _∙_}
 use native.Mathlib.Omega.{arith}
 use Rattle.codes.specs.Code.{hyphen}
@@ -8,52 +9,38 @@ use lib.ListN.{length, getD}
 use borrow.Author.Needs.{needs}
 use Rattle.codes.proofs.code.is_code.Statement.{statement}
 use Rattle.codes.proofs.code.is_code.Tie as tie
-use Rattle.codes.proofs.code.is_code.Reads as reads
-use Rattle.codes.proofs.code.is_code.Lts as lts
-use Rattle.codes.proofs.code.all_characters.Reads as all-characters-reads
-use Rattle.codes.proofs.code.hyphens_apart.Reads as hyphens-apart-reads
 
--- src/code.rt:75:9
 returns : tie.Need-returns
 returns c = is-code-empty (c .before .before .args .s .now) (c .if1 .taken)
 
--- src/code.rt:78:9
 returns-2 : tie.Need-returns-2
 returns-2 c = is-code-long (c .before .before .before .args .s .now) (c .before .if1 .left) (c .if2 .taken)
 
--- src/code.rt:80:9
 all-characters-requires : tie.Need-all-characters-requires
 all-characters-requires c κs = search needs
 
--- src/code.rt:81:9
 returns-3 : tie.Need-returns-3
 returns-3 c = rw (is-code-sized (c .before .before .before .before .before .args .s .now) (omega arith) (omega arith), sym (c .before .all-characters .ensures) ∙ not-true _ (c .if3 .taken))
 
--- src/code.rt:83:8
 shared-slice-read-if4 : tie.Need-shared-slice-read-if4
 shared-slice-read-if4 c = search needs
 
--- src/code.rt:84:9
 returns-4 : tie.Need-returns-4
 unfolding hyphen
 returns-4 c = let s = c .before .before .before .before .before .before .before .args .s .now in
     rw (is-code-sized s (omega arith) (omega arith), sym (c .before .before .before .all-characters .ensures) ∙ not-false _ (c .before .before .if3 .left), eq-eqb (getD s 0 0) 45 (c .if4 .taken))
 
--- src/code.rt:86:8
 shared-slice-read-if5 : tie.Need-shared-slice-read-if5
 shared-slice-read-if5 c = search needs
 
--- src/code.rt:87:9
 returns-5 : tie.Need-returns-5
 unfolding hyphen
 returns-5 c = let s = c .before .before .before .before .before .before .before .before .before .args .s .now in
     rw (is-code-sized s (omega arith) (omega arith), sym (c .before .before .before .before .before .all-characters .ensures) ∙ not-false _ (c .before .before .before .before .if3 .left), ne-eqb (getD s 0 0) 45 (c .before .before .if4 .left), eq-eqb (getD s (length s - 1) 0) 45 (c .if5 .taken))
 
--- src/code.rt:89:5
 hyphens-apart-requires : tie.Need-hyphens-apart-requires
 hyphens-apart-requires c κs = search needs
 
--- src/code.rt:70:1
 returns-6 : tie.Need-returns-6
 unfolding hyphen
 returns-6 c = let s = c .before .before .before .before .before .before .before .before .before .before .args .s .now in

@@ -1,16 +1,13 @@
+-- The second half of the test is the answer where the first half held.
 use borrow.Author.Tests.{le-leb, lt-leb}
 use Rattle.codes.specs.Code.{digit, within}
 use Rattle.codes.proofs.code.is_digit.Statement.{statement}
 use Rattle.codes.proofs.code.is_digit.Tie as tie
-use Rattle.codes.proofs.code.is_digit.Reads as reads
-use Rattle.codes.proofs.code.is_digit.Lts as lts
 
--- src/code.rt:8:1
 returns : tie.Need-returns
 unfolding digit within
 returns c = rw (le-leb 48 (c .before .args .c) (c .if1 .taken))
 
--- src/code.rt:8:1
 returns-2 : tie.Need-returns-2
 unfolding digit within
 returns-2 c = rw (lt-leb 48 (c .before .args .c) (c .if1 .left))

@@ -1,16 +1,13 @@
+-- The second half of the test is the answer where the first half held.
 use borrow.Author.Tests.{le-leb, lt-leb}
 use Rattle.codes.specs.Code.{letter, within}
 use Rattle.codes.proofs.code.is_letter.Statement.{statement}
 use Rattle.codes.proofs.code.is_letter.Tie as tie
-use Rattle.codes.proofs.code.is_letter.Reads as reads
-use Rattle.codes.proofs.code.is_letter.Lts as lts
 
--- src/code.rt:15:1
 returns : tie.Need-returns
 unfolding letter within
 returns c = rw (le-leb 65 (c .before .args .c) (c .if1 .taken))
 
--- src/code.rt:15:1
 returns-2 : tie.Need-returns-2
 unfolding letter within
 returns-2 c = rw (lt-leb 65 (c .before .args .c) (c .if1 .left))

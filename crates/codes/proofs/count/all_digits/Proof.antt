@@ -1,3 +1,4 @@
+-- What is left of the string passes exactly if the whole does.
 use mathlib.Core.Path.{_≡_, refl, sym, _∙_}
 use Prim.Native.Nat.{_≤_, _-_}
 use native.Mathlib.Omega.{arith}
@@ -8,9 +9,6 @@ use Rattle.codes.specs.Code.{all, digit}
 use Rattle.codes.proofs.CodeLaws.{all-stop, all-more, all-end}
 use Rattle.codes.proofs.count.all_digits.Statement.{statement}
 use Rattle.codes.proofs.count.all_digits.Tie as tie
-use Rattle.codes.proofs.count.all_digits.Reads as reads
-use Rattle.codes.proofs.count.all_digits.Lts as lts
-use Rattle.codes.proofs.code.is_digit.Reads as is-digit-reads
 
 abbrev Inv-loop : tie.InvT-loop
 Inv-loop s i₀ i = (i ≤ length s) × (all digit (drop i s) ≡ all digit s)
@@ -18,37 +16,29 @@ Inv-loop s i₀ i = (i ≤ length s) × (all digit (drop i s) ≡ all digit s)
 abbrev μ-loop : tie.MeasureT-loop
 μ-loop s i₀ i = length s - i
 
--- src/count.rt:15:5
 loop-holds : tie.Need-loop-holds Inv-loop μ-loop
 loop-holds c = (omega arith, refl)
 
--- src/count.rt:16:22
 shared-slice-read-is-digit : tie.Need-shared-slice-read-is-digit Inv-loop μ-loop
 shared-slice-read-is-digit c = omega arith
 
--- src/count.rt:16:13
 is-digit-requires : tie.Need-is-digit-requires Inv-loop μ-loop
 is-digit-requires c κs = search needs
 
--- src/count.rt:17:13
 returns : tie.Need-returns Inv-loop μ-loop
 returns c = let l = c .before .before .before .before in
     all-stop digit (l .before .before .args .s .now) (l .loop .i) (l .loop .inv .1) (omega arith) (sym (c .before .is-digit .ensures) ∙ not-true _ (c .if1 .taken))
 
--- src/count.rt:19:9
 add-i : tie.Need-add-i Inv-loop μ-loop
 add-i c = omega arith
 
--- src/count.rt:15:5
 loop-less : tie.Need-loop-less Inv-loop μ-loop
 loop-less c = omega arith
 
--- src/count.rt:15:5
 loop-again : tie.Need-loop-again Inv-loop μ-loop
 loop-again c = let l = c .before .before .before .before in
     (omega arith, all-more digit (l .before .before .args .s .now) (l .loop .i) (l .loop .inv .1) (omega arith) (sym (c .before .is-digit .ensures) ∙ not-false _ (c .if1 .left)))
 
--- src/count.rt:11:1
 returns-2 : tie.Need-returns-2 Inv-loop μ-loop
 returns-2 c = let l = c .before in
     all-end digit (l .before .before .args .s .now) (l .loop .i) (l .loop .inv .1) (c .loop-test .left)

@@ -1,3 +1,4 @@
+-- The tests are the definition's, in its order; each that fails makes the whole false.
 use native.Mathlib.Omega.{arith}
 use mathlib.Core.Path.{sym, _∙_}
 use Rattle.codes.proofs.CountLaws.{is-count-sized, is-count-empty, is-count-long}
@@ -8,36 +9,26 @@ use lib.ListN.{length, getD}
 use borrow.Author.Needs.{needs}
 use Rattle.codes.proofs.count.is_count.Statement.{statement}
 use Rattle.codes.proofs.count.is_count.Tie as tie
-use Rattle.codes.proofs.count.is_count.Reads as reads
-use Rattle.codes.proofs.count.is_count.Lts as lts
-use Rattle.codes.proofs.count.all_digits.Reads as all-digits-reads
 
--- src/count.rt:30:9
 returns : tie.Need-returns
 returns c = is-count-empty (c .before .before .args .s .now) (c .if1 .taken)
 
--- src/count.rt:33:9
 returns-2 : tie.Need-returns-2
 returns-2 c = is-count-long (c .before .before .before .args .s .now) (c .before .if1 .left) (c .if2 .taken)
 
--- src/count.rt:35:9
 all-digits-requires : tie.Need-all-digits-requires
 all-digits-requires c κs = search needs
 
--- src/count.rt:36:9
 returns-3 : tie.Need-returns-3
 returns-3 c = rw (is-count-sized (c .before .before .before .before .before .args .s .now) (omega arith) (omega arith), sym (c .before .all-digits .ensures) ∙ not-true _ (c .if3 .taken))
 
--- src/count.rt:39:9
 returns-4 : tie.Need-returns-4
 returns-4 c = let s = c .before .before .before .before .before .before .args .s .now in
     rw (is-count-sized s (omega arith) (omega arith), sym (c .before .before .all-digits .ensures) ∙ not-false _ (c .before .if3 .left), eq-eqb (length s) 1 (c .if4 .taken)) (sym (or-true (not (eqb (getD s 0 0) 48))))
 
--- src/count.rt:41:5
 shared-slice-read-result : tie.Need-shared-slice-read-result
 shared-slice-read-result c = search needs
 
--- src/count.rt:25:1
 returns-5 : tie.Need-returns-5
 returns-5 c = let s = c .before .before .before .before .before .before .before .args .s .now in
     rw (is-count-sized s (omega arith) (omega arith), sym (c .before .before .before .all-digits .ensures) ∙ not-false _ (c .before .before .if3 .left), ne-eqb (length s) 1 (c .before .if4 .left)) (sym (or-false (not (eqb (getD s 0 0) 48))))

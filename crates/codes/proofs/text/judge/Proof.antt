@@ -1,5 +1,5 @@
-use mathlib.Core.Path.{_≡_, refl, sym, ap, _∙_}
-use native.Mathlib.Omega.{arith}
+-- The tests are the definition's, in its order; an opening that matches has its six octets.
+use mathlib.Core.Path.{sym, _∙_}
 use borrow.Author.Needs.{needs}
 use borrow.Author.Tests.{not-true, not-false, lt-ltb, le-ltb}
 use lib.ListN.{length}
@@ -8,30 +8,21 @@ use Rattle.codes.specs.Read.{answer}
 use Rattle.codes.proofs.TextLaws.{opens-length}
 use Rattle.codes.proofs.text.judge.Statement.{statement}
 use Rattle.codes.proofs.text.judge.Tie as tie
-use Rattle.codes.proofs.text.judge.Reads as reads
-use Rattle.codes.proofs.text.judge.Lts as lts
-use Rattle.codes.proofs.text.judge_second_line.Reads as judge-second-line-reads
-use Rattle.codes.proofs.text.opens.Reads as opens-reads
 
--- src/text.rt:123:9
 returns : tie.Need-returns
 unfolding reading answer
 returns c = rw (lt-ltb 65535 (length (c .before .before .args .text .now)) (c .if1 .taken))
 
--- src/text.rt:125:9
 opens-requires : tie.Need-opens-requires
 opens-requires c κs = search needs
 
--- src/text.rt:126:9
 returns-2 : tie.Need-returns-2
 unfolding reading answer
 returns-2 c = rw (le-ltb 65535 (length (c .before .before .before .before .args .text .now)) (c .before .before .if1 .left), sym (c .before .opens .ensures) ∙ not-true _ (c .if2 .taken))
 
--- src/text.rt:128:5
 judge-second-line-requires : tie.Need-judge-second-line-requires
 judge-second-line-requires c κs = opens-length (c .before .before .before .before .args .text .now) (sym (c .before .opens .ensures) ∙ not-false _ (c .if2 .left))
 
--- src/text.rt:119:1
 returns-3 : tie.Need-returns-3
 unfolding reading answer
 returns-3 c = rw (le-ltb 65535 (length (c .before .before .before .before .before .args .text .now)) (c .before .before .before .if1 .left), sym (c .before .before .opens .ensures) ∙ not-false _ (c .before .if2 .left)) (c .judge-second-line .ensures)

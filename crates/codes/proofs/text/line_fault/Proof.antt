@@ -1,4 +1,5 @@
-use mathlib.Core.Path.{_≡_, refl, sym, ap, _∙_}
+-- The tests are the definition's, in its order, on the line that stands at `at`.
+use mathlib.Core.Path.{sym, _∙_}
 use Rattle.codes.proofs.TextLaws.{unended-at, ended-at, line-at, fault-unended, fault-no-code, fault-at, code-parts}
 use Prim.Native.Nat.{_-_, _<_}
 use lib.ListN.{length, take, drop}
@@ -8,70 +9,51 @@ use native.Mathlib.Omega.{arith}
 use borrow.Author.Needs.{needs}
 use Rattle.codes.proofs.text.line_fault.Statement.{statement}
 use Rattle.codes.proofs.text.line_fault.Tie as tie
-use Rattle.codes.proofs.text.line_fault.Reads as reads
-use Rattle.codes.proofs.text.line_fault.Lts as lts
-use Rattle.codes.proofs.code.is_code.Reads as is-code-reads
-use Rattle.codes.proofs.code.key_of.Reads as key-of-reads
-use Rattle.octets.proofs.below.Reads as below-reads
 
--- src/text.rt:37:9
 returns : tie.Need-returns
 returns c = let a = c .before .before .args in
     sym (fault-unended (some (a .before .now)) (drop (a .at) (a .text .now)) (unended-at (a .text .now) (a .at) (a .end) (c .before .before .pre .1) (c .before .before .pre .0) (c .if1 .taken)))
 
--- src/text.rt:39:17
 sub-is-code : tie.Need-sub-is-code
 sub-is-code c = search needs
 
--- src/text.rt:39:17
 part-is-code-start : tie.Need-part-is-code-start
 part-is-code-start c = search needs
 
--- src/text.rt:39:17
 part-is-code-end : tie.Need-part-is-code-end
 part-is-code-end c = search needs
 
--- src/text.rt:39:9
 is-code-requires : tie.Need-is-code-requires
 is-code-requires c κs = search needs
 
--- src/text.rt:40:9
 returns-2 : tie.Need-returns-2
 returns-2 c = let a = c .before .before .before .before .before .args in
     let l : a .end < length (a .text .now) = omega arith in
     sym (fault-no-code (some (a .before .now)) (drop (a .at) (a .text .now)) (ended-at (a .text .now) (a .at) (a .end) (c .before .before .before .before .before .pre .1) l)
     (rw (line-at (a .text .now) (a .at) (a .end) (c .before .before .before .before .before .pre .1)) (sym (c .before .is-code .ensures) ∙ not-true _ (c .if2 .taken))))
 
--- src/text.rt:42:22
 sub-key-of : tie.Need-sub-key-of
 sub-key-of c = search needs
 
--- src/text.rt:42:22
 part-key-of-start : tie.Need-part-key-of-start
 part-key-of-start c = search needs
 
--- src/text.rt:42:22
 part-key-of-end : tie.Need-part-key-of-end
 part-key-of-end c = search needs
 
--- src/text.rt:42:15
 key-of-requires : tie.Need-key-of-requires
 key-of-requires c κs = let a = c .before .before .before .before .before .before .args in code-parts (take (a .end - a .at) (drop (a .at) (a .text .now))) (sym (c .before .before .is-code .ensures) ∙ not-false _ (c .before .if2 .left)) .few
 
--- src/text.rt:43:30
 slice-aggregate-below : tie.Need-slice-aggregate-below
 slice-aggregate-below c = search needs
 
--- src/text.rt:43:8
 below-requires : tie.Need-below-requires
 below-requires c κs = search needs
 
--- src/text.rt:44:9
 returns-3 : tie.Need-returns-3
 returns-3 c = let a = c .before .before .before .before .before .before .before .before .before .before .before .args in
     sym (rw (c .if3 .taken) at (fault-at (a .text .now) (a .before .now) (c .before .before .before .before .key-of .result) (a .at) (a .end) (c .before .below .result) (c .before .before .before .before .before .before .before .before .before .before .before .pre .1) (omega (arith, c .before .before .before .before .before .before .before .before .before, c .before .before .before .before .before .before .before .before .before .before .before)) (sym (c .before .before .before .before .before .before .before .is-code .ensures) ∙ not-false _ (c .before .before .before .before .before .before .if2 .left)) (c .before .before .before .before .key-of .ensures) (c .before .below .ensures)))
 
--- src/text.rt:32:1
 returns-4 : tie.Need-returns-4
 returns-4 c = let a = c .before .before .before .before .before .before .before .before .before .before .before .args in
     sym (rw (c .if3 .left) at (fault-at (a .text .now) (a .before .now) (c .before .before .before .before .key-of .result) (a .at) (a .end) (c .before .below .result) (c .before .before .before .before .before .before .before .before .before .before .before .pre .1) (omega (arith, c .before .before .before .before .before .before .before .before .before, c .before .before .before .before .before .before .before .before .before .before .before)) (sym (c .before .before .before .before .before .before .before .is-code .ensures) ∙ not-false _ (c .before .before .before .before .before .before .if2 .left)) (c .before .before .before .before .key-of .ensures) (c .before .below .ensures)))

@@ -6,7 +6,7 @@ use Rattle.sha256.proofs.functions.small_sigma1.Tie as tie
 
 returns : tie.Need-returns
 unfolding σ1
-returns c = cc
+returns c = rw (c .before .rotr .ensures, c .rotr2 .ensures)
 
 pub small-sigma1-spec : {M : Type 1} → statement M
 small-sigma1-spec = tie.close (tie.spec (λ c κs. search needs) (λ c κs. search needs) returns)

@@ -1,0 +1,5 @@
+//! Ordinary Rust for the same jobs: plain scalar safe code, as one writes it for speed
+//! without intrinsics.
+
+pub mod sha256;
+pub mod tree;

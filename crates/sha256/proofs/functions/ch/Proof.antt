@@ -1,0 +1,12 @@
+-- The same operations.
+use mathlib.Core.Path.{refl}
+use Rattle.sha256.specs.Fips180.{Ch}
+use Rattle.sha256.proofs.functions.ch.Statement.{statement}
+use Rattle.sha256.proofs.functions.ch.Tie as tie
+
+returns : tie.Need-returns
+unfolding Ch
+returns c = refl
+
+pub ch-spec : {M : Type 1} → statement M
+ch-spec = tie.close (tie.spec returns)

@@ -1,0 +1,48 @@
+/* Sagebutton for C and C++ callers. Link target/staticlib/libsagebutton.a (x86-64 Linux), which bin/library builds.
+ *
+ * Every function answers for every input; none asks the caller to have checked anything. The result is one number:
+ *   bits  0 to 31   what an accepted call answers, or the place of a refusal
+ *   bits 32 to 47   0
+ *   bits 48 to 63   the number of the refusal, 0 if the call was accepted
+ * A refusal writes nothing. An accepted call writes to the front of its output; octets beyond that stay as they were.
+ *
+ * What the caller must keep, since C cannot say it: each pointer is valid for its length and is not null, also for a length
+ * of 0; an output overlaps no other argument; no length exceeds PTRDIFF_MAX; and no other thread writes to the arguments
+ * during the call.
+ */
+#ifndef SAGEBUTTON_H
+#define SAGEBUTTON_H
+
+#include <stddef.h>
+#include <stdint.h>
+
+#ifdef __cplusplus
+extern "C" {
+#endif
+
+/* The number of the refusal; 0 for an accepted call. */
+static inline unsigned sagebutton_refusal(uint64_t result) { return (unsigned)(result >> 48); }
+
+/* What an accepted call answers, or the place of a refusal. */
+static inline uint32_t sagebutton_value(uint64_t result) { return (uint32_t)result; }
+
+/* SHA-256 (FIPS 180-4) of 0 to 65,535 octets into exactly 32. Answers msg_len.
+ * Refuses: 1 at 0, msg_len over 65,535 or out_len not 32. */
+uint64_t sagebutton_hash(const uint8_t *msg, size_t msg_len, uint8_t *out, size_t out_len);
+
+/* Reads a list of codes and writes 20 octets per key. Answers the count.
+ * Refuses, in this order: 1 at 0, text over 65,535 octets; 12 at the line, first or second line; 2 at 2, count 0; 4 at 2,
+ * count over 3,000; 6 at 0, out_len under 20 times the count; then at the line: 14, no LF or no line; 13, not a code;
+ * 5, not above the code before; last 14 at the count plus 3, octets left over. */
+uint64_t sagebutton_read_list(const uint8_t *text, size_t text_len, uint8_t *out, size_t out_len);
+
+/* The digest of a list of keys, 20 octets each and strictly ascending, into exactly 32 octets. Answers the number of keys.
+ * Refuses, in this order: 1 at 0, out_len not 32; 2 at 0, no keys; 3 at 0, not a multiple of 20 octets; 4 at 0, over 3,000
+ * keys; 5 at the index, counted from 0, of the first key not above the one before. */
+uint64_t sagebutton_digest(const uint8_t *keys, size_t keys_len, uint8_t *out, size_t out_len);
+
+#ifdef __cplusplus
+}
+#endif
+
+#endif

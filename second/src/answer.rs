@@ -1,0 +1,36 @@
+//! What every function answers: a value and the octets it writes, or a numbered refusal.
+
+/// An accepted call answers a value and writes these octets at the front of the lent
+/// buffer; the rest of the buffer stays.
+#[derive(Clone, Debug, PartialEq, Eq)]
+pub struct Accepted {
+    pub value: u32,
+    pub written: Vec<u8>,
+}
+
+/// A refusal returns number and place and writes nothing. The rule says which of document
+/// 01's sentences was broken, for those who count them; no caller ever sees it.
+#[derive(Clone, Copy, Debug, PartialEq, Eq)]
+pub struct Refusal {
+    pub number: u16,
+    pub place: u32,
+    pub rule: &'static str,
+}
+
+pub type Outcome = Result<Accepted, Refusal>;
+
+/// Document 01, "Numbers a caller can meet", as far as built.
+pub const SIZE: u16 = 1;
+pub const NO_KEYS: u16 = 2;
+pub const NOT_A_MULTIPLE: u16 = 3;
+pub const OVER_3000_KEYS: u16 = 4;
+pub const NOT_ASCENDING: u16 = 5;
+pub const OUTPUT_TOO_SHORT: u16 = 6;
+pub const FIRST_OR_SECOND_LINE: u16 = 12;
+pub const NOT_A_CODE: u16 = 13;
+pub const LINES_AND_COUNT: u16 = 14;
+
+pub fn refuse(number: u16, place: usize, rule: &'static str) -> Refusal {
+    let place = place as u32;
+    Refusal { number, place, rule }
+}

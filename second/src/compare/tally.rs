@@ -1,0 +1,97 @@
+//! How often each rule was met, by function. A rule met too seldom is a failure, for a
+//! comparison that never reaches a rule says nothing about it.
+
+use second::answer::*;
+use second::{list, sha256, tree};
+use std::collections::{BTreeMap, BTreeSet};
+
+pub const PROGRAM: &str = "program";
+
+const ACCEPTED: &str = "accepted";
+
+#[derive(Default)]
+struct Met {
+    cases: u64,
+    values: BTreeSet<u32>,
+}
+
+type Rule = (&'static str, u16, &'static str);
+
+pub struct Tally {
+    met: BTreeMap<Rule, Met>,
+}
+
+impl Tally {
+    /// Every rule that must be met, so far met zero times.
+    pub fn new() -> Tally {
+        let rules = RULES.iter().map(|rule| (*rule, Met::default()));
+        let program = PROGRAM_NUMBERS.iter().map(|number| ((PROGRAM, *number, ""), Met::default()));
+        Tally { met: rules.chain(program).collect() }
+    }
+
+    pub fn count(&mut self, function: &'static str, outcome: &Outcome) {
+        let (number, rule, value) = match outcome {
+            Ok(accepted) => (0, ACCEPTED, accepted.value),
+            Err(refusal) => (refusal.number, refusal.rule, refusal.place),
+        };
+        let rule = if function == PROGRAM { "" } else { rule };
+        let met = self.met.entry((function, number, rule)).or_default();
+        met.cases += 1;
+        met.values.insert(value);
+    }
+
+    /// Prints the table; answers the rules met fewer times than asked.
+    pub fn print(&self) -> Vec<String> {
+        let mut faults = Vec::new();
+        println!(
+            "{:<10}{:>4}  {:<40}{:>8}  places, or values if accepted",
+            "function", "no.", "rule", "cases"
+        );
+        for ((function, number, rule), met) in &self.met {
+            let values = match (met.values.first(), met.values.last()) {
+                (Some(least), Some(most)) if least < most => {
+                    format!("{least} to {most}, {} different", met.values.len())
+                }
+                (Some(only), _) => format!("{only}"),
+                _ => String::new(),
+            };
+            println!("{function:<10}{number:>4}  {rule:<40}{:>8}  {values}", met.cases);
+            let asked = if *function == PROGRAM { 1 } else { MANY };
+            if met.cases < asked {
+                faults.push(format!("{function} {number} {rule}: met {} times, not {asked}", met.cases));
+            }
+        }
+        faults
+    }
+}
+
+const MANY: u64 = 100;
+
+const PROGRAM_NUMBERS: [u16; 8] =
+    [0, SIZE, NO_KEYS, OVER_3000_KEYS, NOT_ASCENDING, FIRST_OR_SECOND_LINE, NOT_A_CODE, LINES_AND_COUNT];
+
+const RULES: [Rule; 23] = [
+    ("hash", 0, ACCEPTED),
+    ("hash", SIZE, sha256::MESSAGE_TOO_LONG),
+    ("hash", SIZE, sha256::OUTPUT_NOT_32),
+    ("read_list", 0, ACCEPTED),
+    ("read_list", SIZE, list::TEXT_TOO_LONG),
+    ("read_list", FIRST_OR_SECOND_LINE, list::FIRST_MALFORMED),
+    ("read_list", FIRST_OR_SECOND_LINE, list::FIRST_NO_LF),
+    ("read_list", FIRST_OR_SECOND_LINE, list::SECOND_MALFORMED),
+    ("read_list", FIRST_OR_SECOND_LINE, list::SECOND_NO_LF),
+    ("read_list", NO_KEYS, list::COUNT_0),
+    ("read_list", OVER_3000_KEYS, list::COUNT_OVER_3000),
+    ("read_list", OUTPUT_TOO_SHORT, list::BUFFER_SHORT),
+    ("read_list", LINES_AND_COUNT, list::NO_LF),
+    ("read_list", LINES_AND_COUNT, list::NO_LINE),
+    ("read_list", NOT_A_CODE, list::NO_CODE),
+    ("read_list", NOT_ASCENDING, list::NOT_ABOVE),
+    ("read_list", LINES_AND_COUNT, list::LEFT_OVER),
+    ("digest", 0, ACCEPTED),
+    ("digest", SIZE, tree::OUTPUT_NOT_32),
+    ("digest", NO_KEYS, tree::EMPTY),
+    ("digest", NOT_A_MULTIPLE, tree::NOT_BY_20),
+    ("digest", OVER_3000_KEYS, tree::OVER_3000),
+    ("digest", NOT_ASCENDING, tree::NOT_STRICT),
+];
