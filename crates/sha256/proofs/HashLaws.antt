@@ -1,23 +1,16 @@
--- The promise of `hash` case by case, and that it leaves one outcome.
-use mathlib.Core.Path.{_≡_, refl, sym, _∙_}
+-- The promise of `hash` case by case.
+use mathlib.Core.Path.{_≡_, refl, _∙_}
 use Prim.Native.Nat.{ℕ, _<_, _≤_}
 use borrow.Author.Tests.{lt-ltb, le-ltb, eq-eqb, ne-eqb}
 use lib.ListN.{length}
 use Rattle.answer.specs.Answer.{written}
 use Rattle.answer.specs.Refusals.{size}
-use Rattle.answer.specs.declared.Answer.{Answer}
 use Rattle.answer.specs.declared.Answer.the-variants.{Done, Refused}
 use Rattle.octets.specs.Order.{Octets}
 use Rattle.octets.specs.Put.{Wrote}
 use Rattle.octets.proofs.PutLaws.{put-front}
 use Rattle.sha256.specs.Fips180.{sha256}
 use Rattle.sha256.specs.Hash.{hash-answer, Hashed}
-
--- any two outcomes that meet the promise coincide
-pub hashed-unique : {msg out o₁ o₂ : Octets} {r₁ r₂ : Answer} → Hashed msg out r₁ o₁ → Hashed msg out r₂ o₂ → (r₁ ≡ r₂) × (o₁ ≡ o₂)
-hashed-unique x y =
-    let e = x .answered ∙ sym (y .answered) in
-    (e, x .left ∙ rw e (sym (y .left)))
 
 module _ (msg out : Octets) where
   pub refused-message : 65535 < length msg → Hashed msg out (Refused size 0) out

@@ -1,5 +1,5 @@
 pub mod Fips180Laws
-pub mod HashLaws
+mod HashLaws
 pub mod Bits
 mod WordLaws
 mod DigestLaws

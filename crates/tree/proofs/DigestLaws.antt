@@ -1,4 +1,4 @@
--- The three ends of `digest`, and that its promise leaves one outcome. Where a list is admitted, its entries are all of its
+-- The three ends of `digest`. Where a list is admitted, its entries are all of its
 -- octets, so the label of those octets is the digest.
 use mathlib.Core.Path.{_≡_, refl, sym, ap, _∙_}
 use Prim.Native.Nat.{ℕ}
@@ -49,9 +49,3 @@ module _ (keys out : Octets) (r : Answer) (room : length out ≡ 32) (told : r �
         answered = sym e ∙ answered;
         left = w .left ∙ put-front out d ∙ rw (l ∙ label-admitted n e);
       }
-
--- any two outcomes that meet the promise coincide
-pub digested-one : (keys out : Octets) (r r′ : Answer) (o o′ : Octets) → Digested keys out r o → Digested keys out r′ o′ → (r ≡ r′) × (o ≡ o′)
-digested-one keys out r r′ o o′ d d′ =
-    let e : r ≡ r′ = cc in
-    (e, cc)

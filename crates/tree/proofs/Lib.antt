@@ -1,3 +1,3 @@
 mod AdmissionLaws
 mod LabelLaws
-pub mod DigestLaws
+mod DigestLaws
