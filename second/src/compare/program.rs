@@ -8,7 +8,7 @@ use super::tally::PROGRAM;
 use second::answer::{Outcome, OUTPUT_TOO_SHORT};
 use std::io::{ErrorKind, Write};
 use std::path::PathBuf;
-use std::process::{Command, Output, Stdio};
+use std::process::{ChildStdin, Command, Output, Stdio};
 use std::time::Duration;
 
 pub fn run(comparison: &mut Comparison) {
@@ -98,7 +98,17 @@ fn compare(comparison: &mut Comparison, program: &PathBuf, name: &str, text: &[u
 fn output_of(program: &PathBuf, text: &[u8], piece: usize) -> std::io::Result<Output> {
     let mut command = Command::new(program);
     let mut child = command.stdin(Stdio::piped()).stdout(Stdio::piped()).stderr(Stdio::piped()).spawn()?;
-    let mut input = child.stdin.take().expect("standard input was asked for");
+    let input = child.stdin.take().expect("standard input was asked for");
+    // Beside the reading, so that a program that prints before it has read all can't stop both.
+    std::thread::scope(|scope| {
+        let feeding = scope.spawn(|| feed(input, text, piece));
+        let output = child.wait_with_output();
+        feeding.join().expect("feeding doesn't panic")?;
+        output
+    })
+}
+
+fn feed(mut input: ChildStdin, text: &[u8], piece: usize) -> std::io::Result<()> {
     for part in text.chunks(piece) {
         match input.write_all(part) {
             // It may stop reading once it has seen 65,536 octets.
@@ -109,6 +119,5 @@ fn output_of(program: &PathBuf, text: &[u8], piece: usize) -> std::io::Result<Ou
             std::thread::sleep(Duration::from_millis(2));
         }
     }
-    drop(input);
-    child.wait_with_output()
+    Ok(())
 }
