@@ -1,10 +1,12 @@
-/* Sagebutton for C and C++ callers. Link target/staticlib/libsagebutton.a (x86-64 Linux), which bin/library builds.
+/* Sagebutton for C (C99 or later) and C++ callers. Link target/staticlib/libsagebutton.a (x86-64 Linux), which bin/library builds.
  *
  * Every function answers for every input; none asks the caller to have checked anything. The result is one number:
  *   bits  0 to 31   what an accepted call answers, or the place of a refusal
  *   bits 32 to 47   0
  *   bits 48 to 63   the number of the refusal, 0 if the call was accepted
  * A refusal writes nothing. An accepted call writes to the front of its output; octets beyond that stay as they were.
+ *
+ * A key is 20 octets: the code's ASCII octets, then zeros. 60,000 octets hold the keys of every list that is accepted.
  *
  * What the caller must keep, since C cannot say it: each pointer is valid for its length and is not null, also for a length
  * of 0; an output overlaps no other argument; no length exceeds PTRDIFF_MAX; and no other thread writes to the arguments

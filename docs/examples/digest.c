@@ -7,6 +7,10 @@ int main(void)
     static uint8_t text[65536], keys[60000];
     uint8_t digest[32];
     size_t n = fread(text, 1, sizeof text, stdin);
+    if (ferror(stdin)) {
+        fprintf(stderr, "digest: standard input could not be read to its end\n");
+        return 2;
+    }
 
     uint64_t read = sagebutton_read_list(text, n, keys, sizeof keys);
     if (sagebutton_refusal(read)) {

@@ -17,7 +17,7 @@ use Rattle.codes.specs.Code.{within, all, digit, letter, hyphen, charact
 use Rattle.codes.specs.Count.{number}
 use Rattle.codes.specs.Text.{accepted, before-LF, ended, line, rest, above, fault, more, codes, counted, second-line, opening, reading}
 use Rattle.show.specs.Decimal.{decimal}
-use Rattle.codes.specs.Writing.{code-lines, text-of, code-of, all-codes, ascending, Nothing-skipped, Nothing-refused}
+use Rattle.codes.specs.Writing.{code-lines, text-of, code-of, all-codes, ascending, Nothing-skipped, Every-listing-accepted}
 use Rattle.codes.proofs.Tests.{both, held}
 use Rattle.codes.proofs.CountLaws.{count-parts}
 use Rattle.codes.proofs.DecimalLaws.{decimal-number, decimal-counts}
@@ -177,9 +177,9 @@ code-lines-length (c ∷ cs) e =
     let h = both (is-code c) (all-codes cs) e in
     simp length-append (omega (arith, code-parts c (h .0) .few, code-lines-length cs (h .1)))
 
-pub nothing-refused : Nothing-refused
+pub every-listing-accepted : Every-listing-accepted
 unfolding reading second-line counted text-of
-nothing-refused room cs h =
+every-listing-accepted room cs h =
     let n = length cs in
     let d = decimal-counts n (omega (arith, h .few)) in
     let p = count-parts (decimal n) (d .count) in

@@ -16,5 +16,6 @@ unfoldable pub number-after : ℕ → Octets → ℕ
 number-after n [] = n
 number-after n (c ∷ s) = number-after (n * 10 + (c - 48)) s
 
+-- the number that a count makes
 unfoldable pub number : Octets → ℕ
 number s = number-after 0 s

@@ -49,9 +49,10 @@ pub record Whole (room : ℕ) (text : Octets) (ks : List Octets) : Type 0 where
   pub its-keys : map key-of (map code-of ks) ≡ ks
   pub listing : Listing room (map code-of ks)
 
+-- Reading skips nothing.
 abbrev pub Nothing-skipped : Type 0
 Nothing-skipped = (room : ℕ) (text : Octets) (ks : List Octets) → reading room text ≡ accepted ks → Whole room text ks
 
 -- Conversely every such list, so written, is accepted and gives exactly those keys.
-abbrev pub Nothing-refused : Type 0
-Nothing-refused = (room : ℕ) (cs : List Octets) → Listing room cs → reading room (text-of cs) ≡ accepted (map key-of cs)
+abbrev pub Every-listing-accepted : Type 0
+Every-listing-accepted = (room : ℕ) (cs : List Octets) → Listing room cs → reading room (text-of cs) ≡ accepted (map key-of cs)

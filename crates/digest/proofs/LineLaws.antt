@@ -7,7 +7,7 @@ use lib.ListN.{length, take, length-append}
 use Rattle.answer.specs.declared.Answer.{Answer}
 use Rattle.answer.specs.declared.Answer.the-variants.{Done, Refused}
 use Rattle.octets.specs.Order.{Octets}
-use Rattle.sha256.specs.Fips180.{sha256}
+use Rattle.tree.specs.Edition.{hash}
 use Rattle.attester.specs.Label.{digest}
 use Rattle.codes.specs.Text.{Reading, accepted, refused, reading}
 use Rattle.codes.specs.Read.{Read, answer}
@@ -40,7 +40,7 @@ module _ (text keys : Octets) (big : length keys ≡ 60000) where
       rw e
 
   line-of : (n : ℕ) (ks : List Octets) (d : Octets) → Done n ≡ answer (reading (length keys) text) → reading (length keys) text ≡ accepted ks
-      → d ≡ digest sha256 ks → accepted-line n d ≡ digest-line text
+      → d ≡ digest hash ks → accepted-line n d ≡ digest-line text
   unfolding digest-line shown
   line-of n ks d a e w =
       let e′ : reading 60000 text ≡ accepted ks = rw big at e in

@@ -1,11 +1,11 @@
 -- 01, "The program": the one line that `digest` prints.
 use mathlib.Core.List.{[], _∷_, _++_}
-use Prim.Native.Nat.{ℕ}
+use Prim.Native.Nat.{ℕ, _*_}
 use lib.ListN.{length}
 use Rattle.octets.specs.Order.{Octets}
-use Rattle.sha256.specs.Fips180.{sha256}
 use Rattle.attester.specs.Label.{digest}
 use Rattle.codes.specs.Text.{Reading, accepted, refused, reading}
+use Rattle.tree.specs.Edition.{hash, width, most}
 use Rattle.show.specs.Decimal.{decimal}
 use Rattle.show.specs.Hex.{hex}
 use Rattle.show.specs.Refusal.{refusal-line}
@@ -20,9 +20,9 @@ accepted-line n d = digest-word ++ decimal n ++ (32 ∷ []) ++ hex d ++ (10 ∷ 
 
 -- "or `refused`, the number and the place"
 unfoldable pub shown : Reading → Octets
-shown (accepted ks) = accepted-line (length ks) (digest sha256 ks)
+shown (accepted ks) = accepted-line (length ks) (digest hash ks)
 shown (refused m p) = refusal-line m p
 
--- the line for a text, read into a buffer for 3,000 keys
+-- the line for a text, read into a buffer for as many keys as a list may have
 unfoldable pub digest-line : Octets → Octets
-digest-line text = shown (reading 60000 text)
+digest-line text = shown (reading (most * width) text)

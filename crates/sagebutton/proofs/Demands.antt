@@ -4,6 +4,7 @@ use mathlib.Core.Bool.{true}
 use mathlib.Core.List.{List, [], _∷_, _++_, map, flatten, append-nil}
 use mathlib.Core.Option.{Option, none, some}
 use Prim.Native.Nat.{ℕ, _+_, _*_}
+use native.Mathlib.Nat.{le-refl}
 use native.Mathlib.Omega.{arith}
 use borrow.Author.Tests.{eq-eqb}
 use lib.ListN.{length, take, drop, length-map, drop-of-length-le}
@@ -15,37 +16,27 @@ use Rattle.octets.specs.Order.{Octets, order}
 use Rattle.octets.proofs.OrderLaws.{is-less-true}
 use Rattle.sha256.specs.Fips180.{sha256}
 use Rattle.sha256.proofs.Fips180Laws.{sha256-length}
-use Rattle.attester.specs.Entry.{key}
+use Rattle.attester.specs.Entry.{key, entries}
 use Rattle.attester.specs.Label.{digest}
 use Rattle.attester.specs.Listing.{Below, Each, Ascending, Listing}
 use Rattle.attester.specs.Admission.{admit, admitted}
 use Rattle.attester.proofs.ListingLaws.{ascending-cons}
 use Rattle.attester.proofs.AdmissionLaws.{listing-admitted}
-use Rattle.attester.proofs.EntryLaws.{flatten-length}
+use Rattle.attester.proofs.EntryLaws.{flatten-length, entries-front, entries-flatten}
 use Rattle.attester.proofs.LabelLaws.{digest-length}
 use Rattle.codes.specs.Code.{is-code, key-of}
 use Rattle.codes.specs.Text.{Reading, accepted, above, reading}
 use Rattle.codes.specs.Read.{keys}
-use Rattle.codes.specs.Writing.{all-codes, ascending, code-of}
+use Rattle.codes.specs.Writing.{all-codes, ascending, code-of, text-of}
 use Rattle.codes.proofs.Tests.{both}
 use Rattle.codes.proofs.CodeLaws.{key-of-length}
 use Rattle.codes.proofs.TextLaws.{code-parts}
 use Rattle.codes.proofs.AcceptedLaws.{answer-done}
-use Rattle.codes.proofs.NothingSkipped.{nothing-skipped, nothing-refused}
+use Rattle.codes.proofs.NothingSkipped.{nothing-skipped, every-listing-accepted}
 use Rattle.tree.specs.Admitted.{entries-of}
 use Rattle.tree.specs.Digest.{Digested, digest-answer, digest-octets}
 use Rattle.tree.specs.Edition.{hash}
-use Rattle.sagebutton.specs.Demands.{Demand-1, Read-lists-have-digests}
-
-pub demand-1 : Demand-1
-unfolding written
-demand-1 = record {
-  hash-untouched = λ input out m p out′ h. h .left;
-  read-list-untouched = λ input out m p out′ h. h .left;
-  digest-untouched = λ input out m p out′ h. h .left;
-  nothing-skipped = nothing-skipped;
-  nothing-refused = nothing-refused;
-}
+use Rattle.sagebutton.specs.Demands.{Demand-1, Written-is-the-list, Read-lists-have-digests}
 
 -- The keys of codes are a listing
 
@@ -96,6 +87,18 @@ module _ (text out out′ : Octets) (n : ℕ) (ks : List Octets) (is : reading (
       let f : out′ ≡ flatten ks ++ drop (length (flatten ks)) out = rw (keys-accepted (reading (length out) text) ks is) at o in
       rw (f, take-at (flatten ks) (drop (length (flatten ks)) out) (20 * n) n20) (listing-admitted 20 3000 ks (omega arith) l)
 
+  entries-read : entries 20 n out′ ≡ ks
+  unfolding written
+  entries-read =
+      let l = reading-listing (length out) text ks is in
+      let n20 : length (flatten ks) ≡ n * 20 = omega (arith, flatten-length 20 ks (l .sized)) in
+      let f : out′ ≡ flatten ks ++ drop (length (flatten ks)) out = rw (keys-accepted (reading (length out) text) ks is) at o in
+      let front : take (n * 20) out′ ≡ flatten ks = rw f (take-at (flatten ks) (drop (length (flatten ks)) out) (n * 20) n20) in
+      sym (entries-front 20 n (n * 20) out′ (le-refl _)) ∙ rw front (rw many at (entries-flatten 20 ks (l .sized)))
+
+  whole-list : text ≡ text-of (map code-of (entries 20 n out′))
+  whole-list = rw entries-read (nothing-skipped (length out) text ks is .octet-for-octet)
+
   digest-of-keys : (d : Octets) → length d ≡ 32 → (r : Answer) (d′ : Octets) → Digested (take (20 * n) out′) d r d′ → (r ≡ Done n) × (d′ ≡ digest sha256 ks)
   unfolding written digest-answer digest-octets
   digest-of-keys d d32 r d′ g =
@@ -105,8 +108,25 @@ module _ (text out out′ : Octets) (n : ℕ) (ks : List Octets) (is : reading (
       let none-left : drop (length (digest sha256 ks)) d ≡ [] = drop-of-length-le d {i = length (digest sha256 ks)} (omega (arith, digest-length sha256 sha256-length ks)) in
       (done, v ∙ rw none-left (append-nil (digest sha256 ks)))
 
+written-is-the-list : Written-is-the-list
+unfolding written
+written-is-the-list text out n out′ r =
+    let t = answer-done (reading (length out) text) n (sym (r .answered)) in
+    whole-list text out out′ n (t .those) (t .is) (t .many) (r .left)
+
 pub read-lists-have-digests : Read-lists-have-digests
 read-lists-have-digests text out n out′ r d d32 a d′ g =
     let t = answer-done (reading (length out) text) n (sym (r .answered)) in
     let h = digest-of-keys text out out′ n (t .those) (t .is) (t .many) (r .left) d d32 a d′ g in
     record { keys = t .those; read = t .is; answered = h .0; written = h .1 }
+
+pub demand-1 : Demand-1
+unfolding written
+demand-1 = record {
+  hash-untouched = λ input out m p out′ h. h .left;
+  read-list-untouched = λ input out m p out′ h. h .left;
+  digest-untouched = λ input out m p out′ h. h .left;
+  written-is-the-list = written-is-the-list;
+  nothing-skipped = nothing-skipped;
+  every-listing-accepted = every-listing-accepted;
+}

@@ -1,14 +1,17 @@
 -- A promise that gives the answer and the buffer by definitions of the inputs is met by those alone.
-use mathlib.Core.Path.{refl}
+use mathlib.Core.Path.{refl, ap, _∙_}
+use native.Mathlib.Omega.{arith}
 use lib.ListN.{length}
-use Rattle.answer.specs.Answer.{written}
+use Rattle.answer.specs.declared.Answer.the-variants.{Done, Refused}
+use Rattle.answer.specs.Answer.{written, packed}
 use Rattle.sha256.specs.Fips180.{sha256}
 use Rattle.sha256.specs.Hash.{hash-answer}
 use Rattle.codes.specs.Text.{reading}
 use Rattle.codes.specs.Read.{answer, keys}
 use Rattle.tree.specs.Digest.{digest-answer, digest-octets}
 use Rattle.tree.specs.Edition.{hash, width, most}
-use Rattle.sagebutton.specs.OneOutcome.{Hash-has-one-outcome, Read-list-has-one-outcome, Digest-has-one-outcome}
+use Rattle.sagebutton.specs.Packed.{Packing}
+use Rattle.sagebutton.specs.OneOutcome.{Hash-has-one-outcome, Read-list-has-one-outcome, Digest-has-one-outcome, Exports-have-one-outcome}
 
 pub hash-has-one-outcome : Hash-has-one-outcome
 hash-has-one-outcome msg out = record {
@@ -33,3 +36,15 @@ digest-has-one-outcome list out = record {
   permitted = record { answered = refl; left = refl };
   only = λ r out′ m. (m .answered, cc);
 }
+
+pub exports-have-one-outcome : Exports-have-one-outcome
+exports-have-one-outcome Meets o = record {
+  result = packed (o .answer);
+  buffer = o .buffer;
+  permitted = record { told = o .answer; meets = o .permitted; is = refl };
+  only = λ r out′ p. let h = o .only (p .told) out′ (p .meets) in (p .is ∙ ap packed (h .0), h .1);
+}
+
+pub packing : Packing
+packing (Done n) h = record { low = omega arith; middle = omega arith; high = omega arith }
+packing (Refused m p) h = record { low = omega arith; middle = omega arith; high = omega arith }

@@ -1,10 +1,13 @@
 -- The tests are the definition's, in its order, on the line that stands at `at`.
-use mathlib.Core.Path.{sym, _∙_}
+use mathlib.Core.Path.{_≡_, sym, _∙_}
 use Rattle.codes.proofs.TextLaws.{unended-at, ended-at, line-at, fault-unended, fault-no-code, fault-at, code-parts}
 use Prim.Native.Nat.{_-_, _<_}
 use lib.ListN.{length, take, drop}
 use borrow.Author.Tests.{not-true, not-false}
+use mathlib.Core.Bool.{cond}
 use mathlib.Core.Option.{some}
+use Rattle.answer.specs.Refusals.{not-ascending}
+use Rattle.codes.specs.Text.{fault}
 use native.Mathlib.Omega.{arith}
 use borrow.Author.Needs.{needs}
 use Rattle.codes.proofs.text.line_fault.Statement.{statement}
@@ -50,13 +53,21 @@ slice-aggregate-below c = search needs
 below-requires : tie.Need-below-requires
 below-requires c κs = search needs
 
+-- a code at its place is at fault or not as the comparison tells
+told : (c : tie.After-below) → fault (some (c .before .before .before .before .before .before .before .before .before .before .args .before .now)) (drop (c .before .before .before .before .before .before .before .before .before .before .args .at) (c .before .before .before .before .before .before .before .before .before .before .args .text .now)) ≡ cond (c .below .result) 0 not-ascending
+told c =
+    let start = c .before .before .before .before .before .before .before .before .before .before in
+    let code = c .before .before .before .before .before .before in
+    let a = start .args in
+    fault-at (a .text .now) (a .before .now) (c .before .before .before .key-of .result) (a .at) (a .end) (c .below .result) (start .pre .1)
+    (omega (arith, c .before .before .before .before .before .before .before .before, start))
+    (sym (code .is-code .ensures) ∙ not-false _ (c .before .before .before .before .before .if2 .left)) (c .before .before .before .key-of .ensures) (c .below .ensures)
+
 returns-3 : tie.Need-returns-3
-returns-3 c = let a = c .before .before .before .before .before .before .before .before .before .before .before .args in
-    sym (rw (c .if3 .taken) at (fault-at (a .text .now) (a .before .now) (c .before .before .before .before .key-of .result) (a .at) (a .end) (c .before .below .result) (c .before .before .before .before .before .before .before .before .before .before .before .pre .1) (omega (arith, c .before .before .before .before .before .before .before .before .before, c .before .before .before .before .before .before .before .before .before .before .before)) (sym (c .before .before .before .before .before .before .before .is-code .ensures) ∙ not-false _ (c .before .before .before .before .before .before .if2 .left)) (c .before .before .before .before .key-of .ensures) (c .before .below .ensures)))
+returns-3 c = sym (rw (c .if3 .taken) at (told (c .before)))
 
 returns-4 : tie.Need-returns-4
-returns-4 c = let a = c .before .before .before .before .before .before .before .before .before .before .before .args in
-    sym (rw (c .if3 .left) at (fault-at (a .text .now) (a .before .now) (c .before .before .before .before .key-of .result) (a .at) (a .end) (c .before .below .result) (c .before .before .before .before .before .before .before .before .before .before .before .pre .1) (omega (arith, c .before .before .before .before .before .before .before .before .before, c .before .before .before .before .before .before .before .before .before .before .before)) (sym (c .before .before .before .before .before .before .before .is-code .ensures) ∙ not-false _ (c .before .before .before .before .before .before .if2 .left)) (c .before .before .before .before .key-of .ensures) (c .before .below .ensures)))
+returns-4 c = sym (rw (c .if3 .left) at (told (c .before)))
 
 pub line-fault-spec : {M : Type 1} → statement M
 line-fault-spec =
