@@ -4,6 +4,8 @@ use Prim.Native.Nat.{ℕ, _+_, _*_, _^_}
 use lib.ListN.{length, drop}
 use Rattle.answer.specs.declared.Answer.{Answer}
 use Rattle.answer.specs.declared.Answer.the-variants.{Done, Refused}
+use Rattle.answer.specs.declared.Verdict.{Verdict}
+use Rattle.answer.specs.declared.Verdict.the-variants as verdict
 
 -- 01, "Numbers a caller can meet": the refusal's number; 0 where there is none
 abbrev pub number : Answer → ℕ
@@ -23,3 +25,19 @@ packed a = number a * 2 ^ 48 + value a
 unfoldable pub written : Answer → List ℕ → List ℕ → List ℕ
 written (Done n) s out = s ++ drop (length s) out
 written (Refused m p) s out = out
+
+-- 01, "Verdict": a refusal's number; 0 where the attestation is accepted
+abbrev pub verdict-number : Verdict → ℕ
+verdict-number verdict.Present = 0
+verdict-number verdict.Absent = 0
+verdict-number (verdict.Refused m p) = m
+
+-- 01, "Verdict", step 6: 1 for Present, 0 for Absent; or the refusal's place
+abbrev pub verdict-value : Verdict → ℕ
+verdict-value verdict.Present = 1
+verdict-value verdict.Absent = 0
+verdict-value (verdict.Refused m p) = p
+
+-- the C face's one number, as for an answer
+abbrev pub verdict-packed : Verdict → ℕ
+verdict-packed v = verdict-number v * 2 ^ 48 + verdict-value v

@@ -25,6 +25,22 @@ not-ascending = 5
 abbrev pub too-short : ℕ
 too-short = 6
 
+-- attestation form
+abbrev pub form : ℕ
+form = 7
+
+-- child at the foot where x would be
+abbrev pub child-at-foot : ℕ
+child-at-foot = 8
+
+-- x above the foot, or a key equal to the one below it on the path
+abbrev pub key-above : ℕ
+key-above = 9
+
+-- digest differs
+abbrev pub other-digest : ℕ
+other-digest = 10
+
 -- first or second line
 abbrev pub head : ℕ
 head = 12

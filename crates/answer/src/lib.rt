@@ -1,6 +1,6 @@
 // The answers that a caller can meet, and the number that stands for one where a plain number must do.
 ghost use mathlib.Core.Path.{_≡_};
-ghost use Rattle.answer.specs.Answer.{packed};
+ghost use Rattle.answer.specs.Answer.{packed, verdict-packed};
 
 // 01, "Numbers a caller can meet": the refusals by name.
 pub const SIZE: u16 = 1;
@@ -15,6 +15,14 @@ pub const NOT_ASCENDING: u16 = 5;
 
 pub const TOO_SHORT: u16 = 6;
 
+pub const FORM: u16 = 7;
+
+pub const CHILD_AT_FOOT: u16 = 8;
+
+pub const KEY_ABOVE: u16 = 9;
+
+pub const OTHER_DIGEST: u16 = 10;
+
 pub const HEAD: u16 = 12;
 
 pub const NOT_A_CODE: u16 = 13;
@@ -27,6 +35,14 @@ pub enum Answer {
     Refused { number: u16, place: u32 },
 }
 
+// What an attestation shows of a key under a digest: that it is listed, that it is not, or nothing, with the number and the
+// place of document 01.
+pub enum Verdict {
+    Present,
+    Absent,
+    Refused { number: u16, place: u32 },
+}
+
 // The answer as one number, for callers in other languages.
 pub fn pack(a: Answer) -> u64
     ensures { λ r. ⌜ r ≡ packed a ⌝ }
@@ -34,5 +50,16 @@ pub fn pack(a: Answer) -> u64
     match a {
         Answer::Done(n) => n as u64,
         Answer::Refused { number, place } => number as u64 * 281474976710656 + (place as u64),
+    }
+}
+
+// The verdict as one number, for callers in other languages: Present is 1, Absent 0.
+pub fn pack_verdict(v: Verdict) -> u64
+    ensures { λ r. ⌜ r ≡ verdict-packed v ⌝ }
+{
+    match v {
+        Verdict::Present => 1,
+        Verdict::Absent => 0,
+        Verdict::Refused { number, place } => number as u64 * 281474976710656 + (place as u64),
     }
 }

@@ -5,3 +5,12 @@ pub mod Label
 pub mod Depth
 pub mod Listing
 pub mod Admission
+pub mod Path
+pub mod Verdict
+pub mod Reader
+pub mod Form
+pub mod Verify
+pub mod Search
+pub mod Attestation
+pub mod Demand2
+pub mod Longest

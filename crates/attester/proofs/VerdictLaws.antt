@@ -1,0 +1,138 @@
+-- What a judgement is, step by step; what one level more adds to steps 4 and 5; and that a path which passes steps 3 and 4 is
+-- accepted under the label that it hashes to, and under no other.
+use mathlib.Core.Path.{_≡_, refl}
+use mathlib.Core.Bool.{Bool, true, false, cond, or-true}
+use mathlib.Core.Option.{Option, none, some}
+use Prim.Native.Nat.{ℕ, suc, Ordering·lt, Ordering·eq, Ordering·gt}
+use lib.Dec.{eqb}
+use Rattle.answer.specs.Refusals.{child-at-foot, key-above, other-digest}
+use Rattle.octets.specs.Order.{Octets, same}
+use Rattle.octets.proofs.OrderLaws.{order-eq, same-true, same-refl}
+use Rattle.attester.specs.Entry.{key}
+use Rattle.attester.specs.Record.{Child, bit, node-record}
+use Rattle.attester.specs.Path.{Path, foot, step, top, foot-entry, foot-left, foot-right, height}
+use Rattle.attester.specs.Verdict.{present, absent, refused, Accepted, side, child-there, hidden, fault, join, unless-fault, root-record, judge}
+
+-- Where x stands, and whether it is the key
+
+pub side-eq : (x e : Octets) → side x e ≡ Ordering·eq → x ≡ key e
+unfolding side
+side-eq x e h = order-eq x (key e) h
+
+pub side-same-lt : (x e : Octets) → side x e ≡ Ordering·lt → same x (key e) ≡ false
+unfolding side same
+side-same-lt x e h = rw h
+
+pub side-same-eq : (x e : Octets) → side x e ≡ Ordering·eq → same x (key e) ≡ true
+unfolding side same
+side-same-eq x e h = rw h
+
+pub side-same-gt : (x e : Octets) → side x e ≡ Ordering·gt → same x (key e) ≡ false
+unfolding side same
+side-same-gt x e h = rw h
+
+-- The steps
+
+module _ (H : Octets → Octets) (x d : Octets) (p : Path) where
+  pub judge-hidden : hidden x p ≡ true → judge H x d p ≡ refused child-at-foot 0
+  unfolding judge
+  judge-hidden h = rw h
+
+  module _ (open-foot : hidden x p ≡ false) where
+    pub judge-fault : (j : ℕ) → fault x p ≡ some j → judge H x d p ≡ refused key-above j
+    unfolding judge
+    judge-fault j f = rw (open-foot, f)
+
+    module _ (faultless : fault x p ≡ none) where
+      pub judge-other : same (H (root-record H x p)) d ≡ false → judge H x d p ≡ refused other-digest 0
+      unfolding judge
+      judge-other s = rw (open-foot, faultless, s)
+
+      pub judge-accepts : same (H (root-record H x p)) d ≡ true → judge H x d p ≡ cond (same x (key (foot-entry p))) present absent
+      unfolding judge
+      judge-accepts s = rw (open-foot, faultless, s)
+
+-- a path that was accepted passed each step
+pub record Passed (H : Octets → Octets) (x d : Octets) (p : Path) : Type 0 where
+  pub open-foot : hidden x p ≡ false
+  pub faultless : fault x p ≡ none
+  pub hashes : H (root-record H x p) ≡ d
+  pub answer : judge H x d p ≡ cond (same x (key (foot-entry p))) present absent
+
+pub judge-passed : (H : Octets → Octets) (x d : Octets) (p : Path) → Accepted (judge H x d p) → Passed H x d p
+unfolding judge
+judge-passed H x d p h = go (hidden x p) (fault x p) (same (H (root-record H x p)) d) refl refl refl h
+  where
+    go : (o : Bool) (f : Option ℕ) (s : Bool) → hidden x p ≡ o → fault x p ≡ f → same (H (root-record H x p)) d ≡ s
+        → Accepted (cond o (refused child-at-foot 0) (unless-fault f (cond s (cond (same x (key (foot-entry p))) present absent) (refused other-digest 0))))
+        → Passed H x d p
+    go true f s a b c t = absurd t
+    go false (some j) s a b c t = absurd t
+    go false none false a b c t = absurd t
+    go false none true a b c t = record {
+      open-foot = a;
+      faultless = b;
+      hashes = same-true (H (root-record H x p)) d c;
+      answer = judge-accepts H x d p a b c;
+    }
+
+-- under the label that it hashes to
+pub judge-own : (H : Octets → Octets) (x : Octets) (p : Path) → hidden x p ≡ false → fault x p ≡ none
+    → judge H x (H (root-record H x p)) p ≡ cond (same x (key (foot-entry p))) present absent
+judge-own H x p a b = judge-accepts H x (H (root-record H x p)) p a b (same-refl (H (root-record H x p)))
+
+-- Step 3, by where x stands
+
+module _ (x : Octets) (p : Path) where
+  pub hidden-left : side x (foot-entry p) ≡ Ordering·lt → hidden x p ≡ eqb (bit (foot-left p)) 1
+  unfolding hidden child-there
+  hidden-left s = rw s (go (foot-left p))
+    where
+      go : (c : Child) → child-there Ordering·lt c (foot-right p) ≡ eqb (bit c) 1
+      go none = refl
+      go (some l) = refl
+
+  pub hidden-here : side x (foot-entry p) ≡ Ordering·eq → hidden x p ≡ false
+  unfolding hidden child-there
+  hidden-here s = rw s
+
+  pub hidden-right : side x (foot-entry p) ≡ Ordering·gt → hidden x p ≡ eqb (bit (foot-right p)) 1
+  unfolding hidden child-there
+  hidden-right s = rw s (go (foot-right p))
+    where
+      go : (c : Child) → child-there Ordering·gt (foot-left p) c ≡ eqb (bit c) 1
+      go none = refl
+      go (some l) = refl
+
+-- Step 4, one level up
+
+module _ (x e : Octets) (s : Child) (p : Path) (clean : fault x p ≡ none) where
+  -- x = kj
+  pub fault-key : same x (key e) ≡ true → fault x (step e s p) ≡ some (suc (height p))
+  unfolding fault
+  fault-key h = rw (clean, h)
+
+  -- k(j-1) = kj
+  pub fault-equal : same (key (top p)) (key e) ≡ true → fault x (step e s p) ≡ some (suc (height p))
+  unfolding fault
+  fault-equal h = rw (clean, h, or-true (same x (key e)))
+
+  pub fault-none : same x (key e) ≡ false → same (key (top p)) (key e) ≡ false → fault x (step e s p) ≡ none
+  unfolding fault
+  fault-none h k = rw (clean, h, k)
+
+-- Step 5, one level up
+
+module _ (H : Octets → Octets) (x : Octets) where
+  pub root-record-foot : (e : Octets) (l r : Child) → root-record H x (foot e l r) ≡ node-record l e r
+  unfolding root-record
+  root-record-foot e l r = refl
+
+  module _ (e : Octets) (s : Child) (p : Path) where
+    pub root-record-left : side x e ≡ Ordering·lt → root-record H x (step e s p) ≡ node-record (some (H (root-record H x p))) e s
+    unfolding root-record join
+    root-record-left o = rw o
+
+    pub root-record-right : side x e ≡ Ordering·gt → root-record H x (step e s p) ≡ node-record s e (some (H (root-record H x p)))
+    unfolding root-record join
+    root-record-right o = rw o

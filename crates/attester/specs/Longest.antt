@@ -1,0 +1,32 @@
+-- The longest attestations (01, "The attestation": "The longest the verifier takes is 1,731 octets; the longest we issue is
+-- 586."), over any function H from records to labels.
+use mathlib.Core.Path.{_≡_}
+use mathlib.Core.List.{List}
+use Prim.Native.Nat.{ℕ, _≤_}
+use lib.ListN.{length}
+use Rattle.octets.specs.Order.{Octets}
+use Rattle.attester.specs.Listing.{Listing}
+use Rattle.attester.specs.Verdict.{Accepted}
+use Rattle.attester.specs.Attestation.{attestation}
+use Rattle.attester.specs.Verify.{verify}
+
+-- octets that are issued, for some key in some accepted list
+pub record Issued (H : Octets → Octets) (w most : ℕ) (a : Octets) : Type 0 where
+  pub list : List Octets
+  pub listing : Listing w most list
+  pub key : Octets
+  pub key-size : length key ≡ 20
+  pub is : a ≡ attestation H list key
+
+-- octets that the verifier takes, for some key under some digest
+pub record Taken (H : Octets → Octets) (w : ℕ) (a : Octets) : Type 0 where
+  pub key : Octets
+  pub digest : Octets
+  pub accepted : Accepted (verify H w key digest a)
+
+-- none has more than n octets, and one has n
+pub record Longest (Is : Octets → Type 0) (n : ℕ) : Type 0 where
+  pub most : (a : Octets) → Is a → length a ≤ n
+  pub longest : Octets
+  pub is : Is longest
+  pub reached : length longest ≡ n
