@@ -1,0 +1,157 @@
+-- What stands on the path in a key list, one level at a time: a child is there where its part has keys, and what is written for a
+-- step comes after what is written for the path below it.
+use mathlib.Core.Path.{_≡_, refl, sym, ap, _∙_, subst}
+use mathlib.Core.List.{[], _∷_, _++_, map, flatten, append-nil, map-append}
+use mathlib.Core.Option.{none, some}
+use Prim.Native.Nat.{ℕ, suc, _+_, _*_, _/_, _≤_, _<_}
+use native.Mathlib.Omega.{arith}
+use lib.ListN.{length, take, drop}
+use Rattle.octets.specs.Order.{Octets}
+use Rattle.attester.specs.Entry.{entries}
+use Rattle.attester.specs.Record.{Child, bit, child-octets}
+use Rattle.attester.specs.Tree.{tree}
+use Rattle.attester.specs.Label.{label, digest}
+use Rattle.attester.specs.Path.{foot, step, foot-left, foot-right, height, keys, siblings, Sized}
+use Rattle.attester.specs.Attestation.{optional-octets, render}
+use Rattle.attester.proofs.EntryLaws.{entries-length, entries-sized}
+use Rattle.attester.proofs.LabelLaws.{label-none, label-bit}
+use Rattle.attester.proofs.LengthLaws.{flatten-append, levels-length, levels-length-is, labels-most, render-levels}
+use Rattle.attester.proofs.TreeLaws.{inorder-of-tree}
+use Rattle.attester.proofs.DepthLaws.{depth-most}
+use Rattle.attester.proofs.SearchLaws.{found-low, found-sized}
+use Rattle.attester.proofs.AttestationLaws.{issued-found}
+use Rattle.sha256.proofs.Fips180Laws.{sha256-length}
+use Rattle.tree.specs.Edition.{hash, width}
+use Rattle.tree.specs.Labels.{label-of}
+use Rattle.attestation.specs.Parts.{Keyed, middle-at, middle-key, onward-part, aside-part, child-of, path-in}
+use Rattle.attestation.proofs.PartsLaws.{path-here, path-on, onward-keyed}
+use Rattle.attestation.proofs.JoinLaws.{Joined}
+
+-- The child of a part
+
+pub child-none : (s : Octets) → length s < 20 → child-of s ≡ none
+unfolding child-of entries
+child-none s h = let z : length s / 20 ≡ 0 = omega arith in rw z (label-none hash)
+
+pub child-bit : (s : Octets) → 20 ≤ length s → bit (child-of s) ≡ 1
+unfolding child-of
+child-bit s h = label-bit hash (entries 20 (length s / 20) s) (rw (entries-length 20 (length s / 20) s) (omega arith))
+
+some-of-bit : (c : Child) → bit c ≡ 1 → c ≡ some (child-octets c)
+unfolding child-octets
+some-of-bit none h = absurd (omega arith)
+some-of-bit (some l) h = refl
+
+pub child-some : (s : Octets) → 20 ≤ length s → child-of s ≡ some (label-of hash width s)
+unfolding child-of label-of digest
+child-some s h = some-of-bit (label hash (tree (entries 20 (length s / 20) s))) (child-bit s h)
+
+pub optional-none : (s : Octets) → length s < 20 → optional-octets (child-of s) ≡ 0 ∷ []
+unfolding optional-octets
+optional-none s h = rw (child-none s h)
+
+pub optional-some : (s : Octets) → 20 ≤ length s → Joined (optional-octets (child-of s)) (1 ∷ []) (label-of hash width s)
+unfolding optional-octets
+optional-some s h = record { joined = rw (child-some s h) }
+
+-- The path as a whole
+
+module _ (x s : Octets) (k : Keyed s) where
+  number : length (entries width (length s / width) s) ≡ length s / 20
+  number = entries-length 20 (length s / 20) s
+
+  positive : 0 < length (entries width (length s / width) s)
+  positive = omega (arith, number, k .some-key)
+
+  -- the path has at most 32 keys
+  pub path-low : suc (height (path-in x s)) ≤ 32
+  unfolding path-in
+  path-low =
+      omega (
+        arith,
+        found-low hash x (issued-found hash (entries width (length s / width) s) x positive),
+        depth-most 32 (entries width (length s / width) s) (omega (arith, number, k .few)),
+      )
+
+  pub path-short : levels-length width (path-in x s) ≤ 2000
+  path-short = omega (arith, levels-length-is width (path-in x s), labels-most (path-in x s), path-low)
+
+  pub path-sized : Sized width (path-in x s)
+  unfolding path-in
+  path-sized =
+      found-sized hash sha256-length x width (issued-found hash (entries width (length s / width) s) x positive)
+      (rw (inorder-of-tree (entries width (length s / width) s)) (entries-sized 20 (length s / 20) s (omega (arith, k .whole))))
+
+  pub render-room : length (render (path-in x s)) ≡ 3 + levels-length width (path-in x s)
+  render-room = render-levels width (path-in x s) path-sized
+
+-- The path one level at a time, by the part `on` where the search goes on
+
+module _ (x s : Octets) (k : Keyed s) (on : Octets) (e : on ≡ onward-part x s) where
+  pub on-keyed : 20 ≤ length on → Keyed on × (length on + 20 ≤ length s)
+  on-keyed h = subst (λ (q : Octets). Keyed q × (length q + 20 ≤ length s)) (sym e) (onward-keyed s k x (omega (arith, ap length e)))
+
+  module _ (ends : length on < 20) where
+    here : path-in x s ≡ foot (middle-key s) (child-of (take (middle-at s) s)) (child-of (drop (middle-at s + 20) s))
+    here = path-here s k x (omega (arith, ap length e))
+
+    pub levels-length-here : {l r : Octets} {a b : ℕ} → l ≡ take (middle-at s) s → r ≡ drop (middle-at s + 20) s
+        → a ≡ bit (child-of l) → b ≡ bit (child-of r) → 21 + 32 * (a + b) ≡ levels-length width (path-in x s)
+    unfolding levels-length
+    levels-length-here el er ea eb = rw (here, ea, eb, el, er)
+
+    pub height-here : height (path-in x s) ≡ 0
+    unfolding height
+    height-here = rw here
+
+    pub keys-here : flatten (keys (path-in x s)) ≡ middle-key s
+    unfolding keys flatten
+    keys-here = rw here (append-nil (middle-key s))
+
+    pub foot-here : {l : Octets} → l ≡ take (middle-at s) s
+        → Joined (optional-octets (foot-left (path-in x s)) ++ optional-octets (foot-right (path-in x s)))
+        (optional-octets (child-of l)) (optional-octets (child-of (drop (middle-at s + 20) s)))
+    unfolding foot-left foot-right
+    foot-here el = record { joined = rw (here, el) }
+
+    pub siblings-here : flatten (map optional-octets (siblings (path-in x s))) ≡ []
+    unfolding siblings flatten
+    siblings-here = rw here
+
+  module _ (goes-on : 20 ≤ length on) where
+    further : path-in x s ≡ step (middle-key s) (child-of (aside-part x s)) (path-in x on)
+    further =
+        path-on s k x (omega (arith, ap length e))
+        ∙ ap (λ (q : Octets). step (middle-key s) (child-of (aside-part x s)) (path-in x q)) (sym e)
+
+    pub levels-length-on : {l : Octets} {a b : ℕ} → l ≡ aside-part x s → a ≡ bit (child-of l) → b ≡ levels-length width (path-in x on)
+        → 21 + 32 * a + b ≡ levels-length width (path-in x s)
+    unfolding levels-length
+    levels-length-on el ea eb = rw (further, ea, eb, el)
+
+    pub height-on : height (path-in x s) ≡ suc (height (path-in x on))
+    unfolding height
+    height-on = rw further
+
+    pub keys-on : Joined (flatten (keys (path-in x s))) (flatten (keys (path-in x on))) (middle-key s)
+    unfolding keys flatten
+    keys-on =
+        record { joined = rw (further, flatten-append (keys (path-in x on)) (middle-key s ∷ []), append-nil (middle-key s)) }
+
+    pub foot-on : optional-octets (foot-left (path-in x s)) ++ optional-octets (foot-right (path-in x s))
+        ≡ optional-octets (foot-left (path-in x on)) ++ optional-octets (foot-right (path-in x on))
+    unfolding foot-left foot-right
+    foot-on = rw further
+
+    pub siblings-on : Joined (flatten (map optional-octets (siblings (path-in x s))))
+        (flatten (map optional-octets (siblings (path-in x on)))) (optional-octets (child-of (aside-part x s)))
+    unfolding siblings flatten
+    siblings-on = record {
+      joined =
+          rw (
+            further,
+            map-append optional-octets (siblings (path-in x on)) (child-of (aside-part x s) ∷ []),
+            flatten-append (map optional-octets (siblings (path-in x on))) (optional-octets (child-of (aside-part x s)) ∷ []),
+            append-nil (optional-octets (child-of (aside-part x s))),
+          );
+    }

@@ -1,0 +1,5 @@
+mod PartsLaws
+mod JoinLaws
+mod IssueLaws
+mod RenderLaws
+mod AttestLaws
