@@ -10,7 +10,6 @@ fn main() {
         None => PathBuf::from(env::var_os("CARGO_MANIFEST_DIR").unwrap()).join("../target/staticlib"),
     };
     println!("cargo:rerun-if-env-changed=SAGEBUTTON_LIB");
-    println!("cargo:rerun-if-changed=build.rs");
     // Without this line a library built anew would not be linked anew.
     println!("cargo:rerun-if-changed={}", folder.join("libsagebutton.a").display());
     println!("cargo:rustc-link-search=native={}", folder.display());

@@ -22,6 +22,7 @@ pub record Keyed (s : Octets) : Type 0 where
 unfoldable pub middle-at : Octets → ℕ
 middle-at s = 20 * (length s / 20 / 2)
 
+-- that key
 abbrev pub middle-key : Octets → Octets
 middle-key s = take 20 (drop (middle-at s) s)
 

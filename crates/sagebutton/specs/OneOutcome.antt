@@ -27,12 +27,13 @@ Read-list-has-one-outcome = (text out : Octets) → One-outcome (Read text out)
 abbrev pub Digest-has-one-outcome : Type 0
 Digest-has-one-outcome = (keys out : Octets) → One-outcome (Digested keys out)
 
--- The same for an exported function, whose answer is a number: whatever promise has one outcome, its export has.
+-- The same for an exported function, whose answer is a number.
 pub record One-number (Meets : ℕ → Octets → Type 0) : Type 0 where
   pub result : ℕ
   pub buffer : Octets
   pub permitted : Meets result buffer
   pub only : (r : ℕ) (out′ : Octets) → Meets r out′ → (r ≡ result) × (out′ ≡ buffer)
 
+-- whatever promise has one outcome, its export has
 abbrev pub Exports-have-one-outcome : Type 1
 Exports-have-one-outcome = (Meets : Answer → Octets → Type 0) → One-outcome Meets → One-number (λ r out′. Packed (λ a. Meets a out′) r)
