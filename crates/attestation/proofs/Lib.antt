@@ -3,3 +3,10 @@ mod JoinLaws
 mod IssueLaws
 mod RenderLaws
 mod AttestLaws
+mod ReadLaws
+mod KeysLaws
+mod OptionalLaws
+mod FormLaws
+mod ShownLaws
+mod JudgeLaws
+mod VerifyLaws

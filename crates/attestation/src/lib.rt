@@ -1,9 +1,14 @@
-// Attestations: issuing one for a key under a list.
+// Attestations: issuing one for a key under a list, and judging one for a key under a digest.
+mod form;
 mod issue;
+mod judge;
 mod parts;
+mod shown;
 
 ghost use Rattle.attestation.specs.Attest.{Attested};
+ghost use Rattle.attestation.specs.Verify.{Verified};
 use answer::Answer;
+use answer::Verdict;
 
 // Writes the attestation for key under a key list, 20 octets a key, to the front of out and answers its length; or refuses,
 // and out stays as it was: key not 20 octets (1), the list's refusals (2, 3, 4, 5), an attestation longer than out (6).
@@ -29,4 +34,29 @@ pub fn attest(key: &[u8], keys: &[u8], out: &mut [u8]) -> Answer
     }
     issue::put_attestation(out, keys, key);
     Answer::Done(n as u32)
+}
+
+// Judges any octets as an attestation for key under digest: whether they show the key present, show it absent, or are refused:
+// key not 20 octets or digest not 32 (1), not an attestation's form (7), a child at the foot where the key would be (8), the key
+// above the foot or a key equal to the one below it (9), another digest (10).
+pub fn verify(key: &[u8], digest: &[u8], att: &[u8]) -> Verdict
+    ensures { λ r. ⌜ Verified (now (key .entry)) (now (digest .entry)) (now (att .entry)) r ⌝ }
+{
+    if key.len() != 20 {
+        return Verdict::Refused {
+            number: answer::SIZE,
+            place: 0,
+        };
+    }
+    if digest.len() != 32 {
+        return Verdict::Refused {
+            number: answer::SIZE,
+            place: 0,
+        };
+    }
+    let f = form::form(att);
+    match f {
+        Answer::Done(_) => judge::judge(key, digest, att),
+        Answer::Refused { number, place } => Verdict::Refused { number, place },
+    }
 }

@@ -146,7 +146,7 @@ sections-rendered w p a t e =
     subst (Rendered w a) (d₇ .1)
     (rendered w k es l r ss a s₁ s₂ s₃ s₄ s₅ (d₁ .1) (d₁ .0) e₁ (d₃ .0) (d₄ .0) e₄ e₅ (d₂ .count) (d₆ .count ∙ m-is) (d₂ .all) (d₃ .1) (d₄ .1) (d₆ .all))
 
-placed-formed : (n : ℕ) (p : Path) (m : Read Path) → placed n m ≡ formed p → (s : Octets) × (m ≡ got p s)
+pub placed-formed : (n : ℕ) (p : Path) (m : Read Path) → placed n m ≡ formed p → (s : Octets) × (m ≡ got p s)
 unfolding placed
 placed-formed n p (got q s) e = (s, cc)
 placed-formed n p (stopped short) e = let z : _≡_ {A = ℕ} 0 1 = cc in absurd (omega arith)

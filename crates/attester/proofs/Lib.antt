@@ -12,6 +12,7 @@ pub mod OffsetLaws
 pub mod SectionLaws
 pub mod VerdictLaws
 pub mod ClimbLaws
+pub mod LayoutLaws
 pub mod VerifyLaws
 pub mod SearchStepLaws
 pub mod SearchLaws

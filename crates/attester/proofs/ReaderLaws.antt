@@ -74,19 +74,32 @@ module _ {A : Type 0} (part : Reader A) where
   unfolding many
   many-next n a s t e = rw e
 
-  -- and whatever is made of them all
-  pub many-then : {B : Type 0} (n : ℕ) (a : A) (s t : Octets) (f : List A → Reader B) → part s ≡ got a t
-      → after (many part (suc n) s) f ≡ after (many part n t) (λ l. f (a ∷ l))
-  unfolding many
-  many-then n a s t f e = rw e (go (many part n t))
-    where
-      go : (m : Read (List A)) → after (after m (λ l. give (a ∷ l))) f ≡ after m (λ l. f (a ∷ l))
-      go (got l u) = refl
-      go (stopped r) = refl
-
   pub many-stop : (n : ℕ) (s : Octets) (r : Stop) → part s ≡ stopped r → many part (suc n) s ≡ stopped r
   unfolding many
   many-stop n s r e = rw e
+
+  -- what was read of the first, and of the others
+  pub record First (n : ℕ) (l : List A) (s t : Octets) : Type 0 where
+    pub first : A
+    pub rest : Octets
+    pub others : List A
+    pub reads : part s ≡ got first rest
+    pub then : many part n rest ≡ got others t
+    pub is : l ≡ first ∷ others
+
+  pub many-first : (n : ℕ) (l : List A) (s t : Octets) → many part (suc n) s ≡ got l t → First n l s t
+  unfolding many
+  many-first n l s t e =
+      went (part s) (λ a. many part n >>= (λ m. give (a ∷ m))) e λ a r u v.
+      went (many part n r) (λ m. give (a ∷ m)) v λ m t′ x y.
+      record {
+        first = a;
+        rest = r;
+        others = m;
+        reads = u;
+        then = cc;
+        is = cc;
+      }
 
 module _ {A : Type 0} (part : Reader A) (write : A → Octets) (P : A → Type 0) (i : Inverse part write P) where
   pub many-back : (n : ℕ) (l : List A) (s : Octets) → length l ≡ n → All P l → many part n (flatten (map write l) ++ s) ≡ got l s

@@ -1,17 +1,17 @@
--- What a judgement is, step by step; what one level more adds to steps 4 and 5; and that a path which passes steps 3 and 4 is
+-- What a judgement is, step by step; what one level more adds to step 4; and that a path which passes steps 3 and 4 is
 -- accepted under the label that it hashes to, and under no other.
 use mathlib.Core.Path.{_≡_, refl}
-use mathlib.Core.Bool.{Bool, true, false, cond, or-true}
+use mathlib.Core.Bool.{Bool, true, false, cond, _||_, or-true}
 use mathlib.Core.Option.{Option, none, some}
-use Prim.Native.Nat.{ℕ, suc, Ordering·lt, Ordering·eq, Ordering·gt}
-use lib.Dec.{eqb}
+use Prim.Native.Nat.{ℕ, suc, _<_, Ordering·lt, Ordering·eq, Ordering·gt}
+use native.Mathlib.Omega.{arith}
 use Rattle.answer.specs.Refusals.{child-at-foot, key-above, other-digest}
 use Rattle.octets.specs.Order.{Octets, same}
 use Rattle.octets.proofs.OrderLaws.{order-eq, same-true, same-refl}
 use Rattle.attester.specs.Entry.{key}
-use Rattle.attester.specs.Record.{Child, bit, node-record}
-use Rattle.attester.specs.Path.{Path, foot, step, top, foot-entry, foot-left, foot-right, height}
-use Rattle.attester.specs.Verdict.{present, absent, refused, Accepted, side, child-there, hidden, fault, join, unless-fault, root-record, judge}
+use Rattle.attester.specs.Record.{Child}
+use Rattle.attester.specs.Path.{Path, foot, step, top, foot-entry, height}
+use Rattle.attester.specs.Verdict.{present, absent, refused, Accepted, side, hidden, lowest, fault, unless-fault, root-record, judge}
 
 -- Where x stands, and whether it is the key
 
@@ -81,29 +81,6 @@ pub judge-own : (H : Octets → Octets) (x : Octets) (p : Path) → hidden x p �
     → judge H x (H (root-record H x p)) p ≡ cond (same x (key (foot-entry p))) present absent
 judge-own H x p a b = judge-accepts H x (H (root-record H x p)) p a b (same-refl (H (root-record H x p)))
 
--- Step 3, by where x stands
-
-module _ (x : Octets) (p : Path) where
-  pub hidden-left : side x (foot-entry p) ≡ Ordering·lt → hidden x p ≡ eqb (bit (foot-left p)) 1
-  unfolding hidden child-there
-  hidden-left s = rw s (go (foot-left p))
-    where
-      go : (c : Child) → child-there Ordering·lt c (foot-right p) ≡ eqb (bit c) 1
-      go none = refl
-      go (some l) = refl
-
-  pub hidden-here : side x (foot-entry p) ≡ Ordering·eq → hidden x p ≡ false
-  unfolding hidden child-there
-  hidden-here s = rw s
-
-  pub hidden-right : side x (foot-entry p) ≡ Ordering·gt → hidden x p ≡ eqb (bit (foot-right p)) 1
-  unfolding hidden child-there
-  hidden-right s = rw s (go (foot-right p))
-    where
-      go : (c : Child) → child-there Ordering·gt (foot-left p) c ≡ eqb (bit c) 1
-      go none = refl
-      go (some l) = refl
-
 -- Step 4, one level up
 
 module _ (x e : Octets) (s : Child) (p : Path) (clean : fault x p ≡ none) where
@@ -121,18 +98,14 @@ module _ (x e : Octets) (s : Child) (p : Path) (clean : fault x p ≡ none) wher
   unfolding fault
   fault-none h k = rw (clean, h, k)
 
--- Step 5, one level up
-
-module _ (H : Octets → Octets) (x : Octets) where
-  pub root-record-foot : (e : Octets) (l r : Child) → root-record H x (foot e l r) ≡ node-record l e r
-  unfolding root-record
-  root-record-foot e l r = refl
-
-  module _ (e : Octets) (s : Child) (p : Path) where
-    pub root-record-left : side x e ≡ Ordering·lt → root-record H x (step e s p) ≡ node-record (some (H (root-record H x p))) e s
-    unfolding root-record join
-    root-record-left o = rw o
-
-    pub root-record-right : side x e ≡ Ordering·gt → root-record H x (step e s p) ≡ node-record s e (some (H (root-record H x p)))
-    unfolding root-record join
-    root-record-right o = rw o
+-- the foot is on no level above itself
+pub fault-above : (x : Octets) (p : Path) (j : ℕ) → fault x p ≡ some j → 0 < j
+unfolding fault
+fault-above x (foot e l r) j h = let z : _≡_ {A = ℕ} 0 1 = cc in absurd (omega arith)
+fault-above x (step e s p) j h =
+    go (fault x p) (same x (key e) || same (key (top p)) (key e)) (fault-above x p j) h
+  where
+    go : (o : Option ℕ) (b : Bool) → (o ≡ some j → 0 < j) → lowest o b (suc (height p)) ≡ some j → 0 < j
+    go (some i) b g k = g k
+    go none true g k = let e : suc (height p) ≡ j = cc in omega arith
+    go none false g k = let z : _≡_ {A = ℕ} 0 1 = cc in absurd (omega arith)

@@ -50,3 +50,9 @@ siblings (step e s p) = siblings p ++ (s ∷ [])
 abbrev pub Sized : ℕ → Path → Type 0
 Sized w (foot e l r) = (length e ≡ w) × Labelled l × Labelled r
 Sized w (step e s p) = (length e ≡ w) × Labelled s × Sized w p
+
+-- 01, "Extractor", "from the root downward, level by level": the path that is left i levels below the root
+unfoldable pub down : ℕ → Path → Path
+down zero p = p
+down (suc i) (foot e l r) = foot e l r
+down (suc i) (step e s p) = down i p
