@@ -16,7 +16,7 @@ use Rattle.tree.specs.Digest.{Digested}
 use Rattle.show.specs.Refusal.{refusal-line}
 use Rattle.show.proofs.DecimalLaws.{decimal-length}
 use Rattle.show.proofs.HexLaws.{hex-length}
-use Rattle.sagebutton.proofs.Demands.{read-lists-have-digests}
+use Rattle.sagebutton.proofs.Demand2.{digest-of-reading}
 use Rattle.digest.specs.Line.{accepted-line, shown, digest-line}
 
 answer-refused : (r : Reading) (m p : ℕ) → Refused m p ≡ answer r → r ≡ refused m p
@@ -50,7 +50,7 @@ module _ (text keys : Octets) (big : length keys ≡ 60000) where
   pub line-accepted : (n : ℕ) (keys′ d : Octets) (b : Answer) (d′ : Octets) → Read text keys (Done n) keys′ → length d ≡ 32
       → Digested (take (20 * n) keys′) d b d′ → accepted-line n d′ ≡ digest-line text
   line-accepted n keys′ d b d′ r d32 g =
-      let h = read-lists-have-digests text keys n keys′ r d d32 b d′ g in
+      let h = digest-of-reading text keys n keys′ r d d32 b d′ g in
       line-of n (h .keys) d′ (r .answered) (h .read) (h .written)
 
 pub accepted-length : (n : ℕ) (d : Octets) → n < 2 ^ 32 → length d ≡ 32 → length (accepted-line n d) ≤ 96

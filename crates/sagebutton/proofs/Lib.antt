@@ -1,2 +1,3 @@
 pub mod OneOutcome
-pub mod Demands
+pub mod Demand1
+pub mod Demand2

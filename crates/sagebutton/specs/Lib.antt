@@ -1,3 +1,4 @@
 pub mod Packed
 pub mod OneOutcome
-pub mod Demands
+pub mod Demand1
+pub mod Demand2

@@ -2,20 +2,25 @@
 use mathlib.Core.Path.{_≡_}
 use Prim.Native.Nat.{ℕ, _/_, _%_, _^_, _<_}
 use Rattle.answer.specs.declared.Answer.{Answer}
-use Rattle.answer.specs.Answer.{number, value, packed}
+use Rattle.answer.specs.declared.Verdict.{Verdict}
+use Rattle.answer.specs.Answer.{number, value, packed, verdict-number, verdict-value, verdict-packed}
 
--- r stands for some answer that meets the promise; `Packing` says that r tells which
-pub record Packed (Meets : Answer → Type 0) (r : ℕ) : Type 0 where
-  pub told : Answer
+-- r is the number, by `pack`, of some answer that meets the promise; `Packing` and `Verdict-packing` say that it tells which
+pub record Packed {A : Type 0} (pack : A → ℕ) (Meets : A → Type 0) (r : ℕ) : Type 0 where
+  pub told : A
   pub meets : Meets told
-  pub is : r ≡ packed told
+  pub is : r ≡ pack told
 
--- The bits of an answer's number, as the header says: 0 to 31 the value, 32 to 47 zero, from 48 on the refusal.
-pub record Bits (a : Answer) : Type 0 where
-  pub low : packed a % 2 ^ 32 ≡ value a
-  pub middle : packed a / 2 ^ 32 % 2 ^ 16 ≡ 0
-  pub high : packed a / 2 ^ 48 ≡ number a
+-- The bits of an answer's number r, as the header says: 0 to 31 the value or place, 32 to 47 zero, from 48 on the refusal.
+pub record Bits (r refusal value-or-place : ℕ) : Type 0 where
+  pub low : r % 2 ^ 32 ≡ value-or-place
+  pub middle : r / 2 ^ 32 % 2 ^ 16 ≡ 0
+  pub high : r / 2 ^ 48 ≡ refusal
 
 -- the code's answers have values below 2 ^ 32
 abbrev pub Packing : Type 0
-Packing = (a : Answer) → value a < 2 ^ 32 → Bits a
+Packing = (a : Answer) → value a < 2 ^ 32 → Bits (packed a) (number a) (value a)
+
+-- and so have its verdicts: 1 for Present, 0 for Absent
+abbrev pub Verdict-packing : Type 0
+Verdict-packing = (v : Verdict) → verdict-value v < 2 ^ 32 → Bits (verdict-packed v) (verdict-number v) (verdict-value v)

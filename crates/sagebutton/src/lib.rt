@@ -2,9 +2,13 @@
 // `sagebutton_`. None asks anything of its caller: every input is answered, or refused with document 01's number and place.
 ghost use Rattle.sha256.specs.Hash.{Hashed};
 ghost use Rattle.codes.specs.Read.{Read};
+ghost use Rattle.answer.specs.Answer.{packed, verdict-packed};
 ghost use Rattle.tree.specs.Digest.{Digested};
+ghost use Rattle.attestation.specs.Attest.{Attested};
+ghost use Rattle.attestation.specs.Verify.{Verified};
 ghost use Rattle.sagebutton.specs.Packed.{Packed};
 use answer::Answer;
+use answer::Verdict;
 
 // The SHA-256 of a message of 0 to 65,535 octets, into exactly 32 octets; answers the message's length.
 pub fn hash(msg: &[u8], out: &mut [u8]) -> Answer
@@ -27,23 +31,51 @@ pub fn digest(keys: &[u8], out: &mut [u8]) -> Answer
     tree::digest(keys, out)
 }
 
+// The attestation for a key under a key list, 20 octets a key, into the front of out; answers its length.
+pub fn attest(key: &[u8], keys: &[u8], out: &mut [u8]) -> Answer
+    ensures { λ r. ⌜ Attested (now (key .entry)) (now (keys .entry)) (now (out .entry)) r (now (out .exit)) ⌝ }
+{
+    attestation::attest(key, keys, out)
+}
+
+// The verdict on any octets as an attestation for a key under a digest.
+pub fn verify(key: &[u8], digest: &[u8], att: &[u8]) -> Verdict
+    ensures { λ r. ⌜ Verified (now (key .entry)) (now (digest .entry)) (now (att .entry)) r ⌝ }
+{
+    attestation::verify(key, digest, att)
+}
+
 #[no_mangle]
 pub extern "C" fn sagebutton_hash(msg: &[u8], out: &mut [u8]) -> u64
-    ensures { λ r. ⌜ Packed (λ a. Hashed (now (msg .entry)) (now (out .entry)) a (now (out .exit))) r ⌝ }
+    ensures { λ r. ⌜ Packed packed (λ a. Hashed (now (msg .entry)) (now (out .entry)) a (now (out .exit))) r ⌝ }
 {
     answer::pack(hash(msg, out))
 }
 
 #[no_mangle]
 pub extern "C" fn sagebutton_read_list(text: &[u8], out: &mut [u8]) -> u64
-    ensures { λ r. ⌜ Packed (λ a. Read (now (text .entry)) (now (out .entry)) a (now (out .exit))) r ⌝ }
+    ensures { λ r. ⌜ Packed packed (λ a. Read (now (text .entry)) (now (out .entry)) a (now (out .exit))) r ⌝ }
 {
     answer::pack(read_list(text, out))
 }
 
 #[no_mangle]
 pub extern "C" fn sagebutton_digest(keys: &[u8], out: &mut [u8]) -> u64
-    ensures { λ r. ⌜ Packed (λ a. Digested (now (keys .entry)) (now (out .entry)) a (now (out .exit))) r ⌝ }
+    ensures { λ r. ⌜ Packed packed (λ a. Digested (now (keys .entry)) (now (out .entry)) a (now (out .exit))) r ⌝ }
 {
     answer::pack(digest(keys, out))
+}
+
+#[no_mangle]
+pub extern "C" fn sagebutton_attest(key: &[u8], keys: &[u8], out: &mut [u8]) -> u64
+    ensures { λ r. ⌜ Packed packed (λ a. Attested (now (key .entry)) (now (keys .entry)) (now (out .entry)) a (now (out .exit))) r ⌝ }
+{
+    answer::pack(attest(key, keys, out))
+}
+
+#[no_mangle]
+pub extern "C" fn sagebutton_verify(key: &[u8], digest: &[u8], att: &[u8]) -> u64
+    ensures { λ r. ⌜ Packed verdict-packed (Verified (now (key .entry)) (now (digest .entry)) (now (att .entry))) r ⌝ }
+{
+    answer::pack_verdict(verify(key, digest, att))
 }

@@ -1,29 +1,21 @@
--- The demands follow from the promises' definitions: a refusal's buffer is the buffer, and a text's keys are a listing.
-use mathlib.Core.Path.{_≡_, sym, ap, _∙_}
+-- Demand 1 follows from the promises' definitions: a refusal's buffer is the buffer, and a text's keys are a listing, so they stand
+-- in the buffer one after another.
+use mathlib.Core.Path.{_≡_, sym, _∙_}
 use mathlib.Core.Bool.{true}
-use mathlib.Core.List.{List, [], _∷_, _++_, map, flatten, append-nil}
+use mathlib.Core.List.{List, [], _∷_, _++_, map, flatten}
 use mathlib.Core.Option.{Option, none, some}
 use Prim.Native.Nat.{ℕ, _+_, _*_}
-use native.Mathlib.Nat.{le-refl}
 use native.Mathlib.Omega.{arith}
-use borrow.Author.Tests.{eq-eqb}
-use lib.ListN.{length, take, drop, length-map, drop-of-length-le}
+use lib.ListN.{length, take, drop, length-map}
 use lib.Seq.{take-at, take-all}
-use Rattle.answer.specs.declared.Answer.{Answer}
 use Rattle.answer.specs.declared.Answer.the-variants.{Done}
 use Rattle.answer.specs.Answer.{written}
 use Rattle.octets.specs.Order.{Octets, order}
 use Rattle.octets.proofs.OrderLaws.{is-less-true}
-use Rattle.sha256.specs.Fips180.{sha256}
-use Rattle.sha256.proofs.Fips180Laws.{sha256-length}
 use Rattle.attester.specs.Entry.{key, entries}
-use Rattle.attester.specs.Label.{digest}
 use Rattle.attester.specs.Listing.{Below, Each, Ascending, Listing}
-use Rattle.attester.specs.Admission.{admit, admitted}
 use Rattle.attester.proofs.ListingLaws.{ascending-cons}
-use Rattle.attester.proofs.AdmissionLaws.{listing-admitted}
 use Rattle.attester.proofs.EntryLaws.{flatten-length, entries-front, entries-flatten}
-use Rattle.attester.proofs.LabelLaws.{digest-length}
 use Rattle.codes.specs.Code.{is-code, key-of}
 use Rattle.codes.specs.Text.{Reading, accepted, above, reading}
 use Rattle.codes.specs.Read.{keys}
@@ -33,10 +25,7 @@ use Rattle.codes.proofs.CodeLaws.{key-of-length}
 use Rattle.codes.proofs.TextLaws.{code-parts}
 use Rattle.codes.proofs.AcceptedLaws.{answer-done}
 use Rattle.codes.proofs.NothingSkipped.{nothing-skipped, every-listing-accepted}
-use Rattle.tree.specs.Admitted.{entries-of}
-use Rattle.tree.specs.Digest.{Digested, digest-answer, digest-octets}
-use Rattle.tree.specs.Edition.{hash}
-use Rattle.sagebutton.specs.Demands.{Demand-1, Written-is-the-list, Read-lists-have-digests}
+use Rattle.sagebutton.specs.Demand1.{Demand-1, Written-is-the-list}
 
 -- The keys of codes are a listing
 
@@ -60,7 +49,7 @@ keys-ascend b (k ∷ j ∷ ks) s e =
     let g = both (above (some k) j) (ascending (some j) ks) (h .1) in
     ascending-cons k j ks (below k j (s .0) (s .1 .0) (g .0)) (keys-ascend (some k) (j ∷ ks) (s .1) (h .1))
 
-reading-listing : (room : ℕ) (text : Octets) (ks : List Octets) → reading room text ≡ accepted ks → Listing 20 3000 ks
+pub reading-listing : (room : ℕ) (text : Octets) (ks : List Octets) → reading room text ≡ accepted ks → Listing 20 3000 ks
 reading-listing room text ks e =
     let w = nothing-skipped room text ks e in
     let l = w .listing in
@@ -79,34 +68,21 @@ keys-accepted r ks e = rw e
 
 module _ (text out out′ : Octets) (n : ℕ) (ks : List Octets) (is : reading (length out) text ≡ accepted ks) (many : length ks ≡ n)
     (o : out′ ≡ written (Done n) (keys (reading (length out) text)) out) where
-  keys-admitted : admit 20 3000 (take (20 * n) out′) ≡ admitted ks
+  pub keys-front : take (20 * n) out′ ≡ flatten ks
   unfolding written
-  keys-admitted =
+  keys-front =
       let l = reading-listing (length out) text ks is in
       let n20 : length (flatten ks) ≡ 20 * n = omega (arith, flatten-length 20 ks (l .sized)) in
       let f : out′ ≡ flatten ks ++ drop (length (flatten ks)) out = rw (keys-accepted (reading (length out) text) ks is) at o in
-      rw (f, take-at (flatten ks) (drop (length (flatten ks)) out) (20 * n) n20) (listing-admitted 20 3000 ks (omega arith) l)
+      rw f (take-at (flatten ks) (drop (length (flatten ks)) out) (20 * n) n20)
 
-  entries-read : entries 20 n out′ ≡ ks
-  unfolding written
-  entries-read =
-      let l = reading-listing (length out) text ks is in
-      let n20 : length (flatten ks) ≡ n * 20 = omega (arith, flatten-length 20 ks (l .sized)) in
-      let f : out′ ≡ flatten ks ++ drop (length (flatten ks)) out = rw (keys-accepted (reading (length out) text) ks is) at o in
-      let front : take (n * 20) out′ ≡ flatten ks = rw f (take-at (flatten ks) (drop (length (flatten ks)) out) (n * 20) n20) in
-      sym (entries-front 20 n (n * 20) out′ (le-refl _)) ∙ rw front (rw many at (entries-flatten 20 ks (l .sized)))
+  pub entries-front-read : entries 20 n (take (20 * n) out′) ≡ ks
+  entries-front-read = rw keys-front (rw many at (entries-flatten 20 ks (reading-listing (length out) text ks is .sized)))
 
   whole-list : text ≡ text-of (map code-of (entries 20 n out′))
-  whole-list = rw entries-read (nothing-skipped (length out) text ks is .octet-for-octet)
-
-  digest-of-keys : (d : Octets) → length d ≡ 32 → (r : Answer) (d′ : Octets) → Digested (take (20 * n) out′) d r d′ → (r ≡ Done n) × (d′ ≡ digest sha256 ks)
-  unfolding written digest-answer digest-octets
-  digest-of-keys d d32 r d′ g =
-      let done : r ≡ Done n = g .answered ∙ rw (eq-eqb (length d) 32 d32, keys-admitted) (ap Done many) in
-      let w : d′ ≡ written (Done n) (digest hash (entries-of (admit 20 3000 (take (20 * n) out′)))) d = rw done at (g .left) in
-      let v : d′ ≡ digest sha256 ks ++ drop (length (digest sha256 ks)) d = rw keys-admitted at w in
-      let none-left : drop (length (digest sha256 ks)) d ≡ [] = drop-of-length-le d {i = length (digest sha256 ks)} (omega (arith, digest-length sha256 sha256-length ks)) in
-      (done, v ∙ rw none-left (append-nil (digest sha256 ks)))
+  whole-list =
+      let read : entries 20 n out′ ≡ ks = sym (entries-front 20 n (20 * n) out′ (omega arith)) ∙ entries-front-read in
+      rw read (nothing-skipped (length out) text ks is .octet-for-octet)
 
 written-is-the-list : Written-is-the-list
 unfolding written
@@ -114,18 +90,13 @@ written-is-the-list text out n out′ r =
     let t = answer-done (reading (length out) text) n (sym (r .answered)) in
     whole-list text out out′ n (t .those) (t .is) (t .many) (r .left)
 
-pub read-lists-have-digests : Read-lists-have-digests
-read-lists-have-digests text out n out′ r d d32 a d′ g =
-    let t = answer-done (reading (length out) text) n (sym (r .answered)) in
-    let h = digest-of-keys text out out′ n (t .those) (t .is) (t .many) (r .left) d d32 a d′ g in
-    record { keys = t .those; read = t .is; answered = h .0; written = h .1 }
-
 pub demand-1 : Demand-1
 unfolding written
 demand-1 = record {
-  hash-untouched = λ input out m p out′ h. h .left;
-  read-list-untouched = λ input out m p out′ h. h .left;
-  digest-untouched = λ input out m p out′ h. h .left;
+  hash-untouched = λ msg out m p out′ h. h .left;
+  read-list-untouched = λ text out m p out′ h. h .left;
+  digest-untouched = λ list out m p out′ h. h .left;
+  attest-untouched = λ x list out m p out′ h. h .left;
   written-is-the-list = written-is-the-list;
   nothing-skipped = nothing-skipped;
   every-listing-accepted = every-listing-accepted;
