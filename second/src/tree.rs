@@ -22,7 +22,7 @@ pub fn digest(octets: &[u8], room: usize) -> Outcome {
 }
 
 /// Accepted key lists hold 1 to 3,000 keys, strictly ascending.
-fn admitted(octets: &[u8]) -> Result<Vec<Key>, Refusal> {
+pub fn admitted(octets: &[u8]) -> Result<Vec<Key>, Refusal> {
     if octets.is_empty() {
         return Err(refuse(NO_KEYS, 0, EMPTY));
     }
@@ -63,7 +63,7 @@ impl Node {
     }
 }
 
-fn label_of(child: &Option<Box<Node>>) -> Option<Label> {
+pub fn label_of(child: &Option<Box<Node>>) -> Option<Label> {
     child.as_ref().map(|node| node.label)
 }
 
