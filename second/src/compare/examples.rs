@@ -1,19 +1,22 @@
 //! Named examples with their answers written down by hand: those of reading, and document
-//! 01's limits of key lists and messages with point 7 of its readings (8 and 9 are about
-//! issuing). Digests and hashes here were worked out with other tools.
+//! 01's limits of key lists and messages with point 7 of its readings. Digests and hashes
+//! here were worked out with other tools.
 
 use super::comparison::{octets_of_hex, Comparison, Expected};
 use super::face::Function;
 use super::readings::{key, keys, readings, Reading, LIST_F};
+use super::{attestations, verdicts};
 use Expected::{Accepted, Refused};
 
 pub fn run(comparison: &mut Comparison) {
     for reading in readings() {
         let Reading { name, text, room, expected } = reading;
-        comparison.example(name, Function::ReadList, &text, room, &expected);
+        comparison.example(name, Function::ReadList, &[&text], room, &expected);
     }
     key_lists(comparison);
     messages(comparison);
+    attestations::run(comparison);
+    verdicts::run(comparison);
 }
 
 fn key_lists(comparison: &mut Comparison) {
@@ -50,7 +53,7 @@ fn key_lists(comparison: &mut Comparison) {
         ("output of 0, no keys", vec![], 0, Refused(1, 0)),
     ];
     for (name, octets, room, expected) in examples {
-        comparison.example(name, Function::Digest, &octets, room, &expected);
+        comparison.example(name, Function::Digest, &[&octets], room, &expected);
     }
 }
 
@@ -66,15 +69,15 @@ fn messages(comparison: &mut Comparison) {
         ("nothing, output of 0", vec![], 0, Refused(1, 0)),
     ];
     for (name, message, room, expected) in examples {
-        comparison.example(name, Function::Hash, &message, room, &expected);
+        comparison.example(name, Function::Hash, &[&message], room, &expected);
     }
 }
 
-const DIGEST_3_4: &str = "492df7e0ae59067d10748545fa79e50c2e327507615415fa866a2c980499c9c0";
+pub const DIGEST_3_4: &str = "492df7e0ae59067d10748545fa79e50c2e327507615415fa866a2c980499c9c0";
 const DIGEST_OF_2: &str = "1555dd283525210ac172faa4e395ebe9d3d7caa3000e36bdd5f465a5fb6e950c";
 const DIGEST_OF_3: &str = "f95bdcc5733e03427c35cf4165d29627a6275b7d6bb4f3f3f70aa4b869748830";
 const DIGEST_7F_80: &str = "5e55be4b7747d504d75ee5702be4950f26f9a12fe663643b51af3feb61400ee8";
-const DIGEST_F: &str = "19c2c39eb852e640afbb4be22ebf0993dc75abca5bf8fe3b0fe4127bce6a5c97";
+pub const DIGEST_F: &str = "19c2c39eb852e640afbb4be22ebf0993dc75abca5bf8fe3b0fe4127bce6a5c97";
 const DIGEST_OF_3000: &str = "ab7f1e426fa491ea101cecdb99e1d83fccc8fc8505256d4d35972fb7ebc78724";
 const HASH_ABC: &str = "ba7816bf8f01cfea414140de5dae2223b00361a396177a9cb410ff61f20015ad";
 const HASH_TWO_BLOCKS: &str = "248d6a61d20638b8e5c026930c3e6039a33ce45964ff2167f6ecedd419db06c1";

@@ -1,12 +1,15 @@
 //! The C face of the library under comparison, and its packed result.
 
-use second::answer::Outcome;
+use second::answer::{Accepted, Outcome};
+use second::verdict::Verdict;
 
 #[derive(Clone, Copy, Debug, PartialEq, Eq, PartialOrd, Ord)]
 pub enum Function {
     Hash,
     ReadList,
     Digest,
+    Attest,
+    Verify,
 }
 
 #[link(name = "sagebutton", kind = "static")]
@@ -14,6 +17,22 @@ extern "C" {
     fn sagebutton_hash(msg: *const u8, msg_len: usize, out: *mut u8, out_len: usize) -> u64;
     fn sagebutton_read_list(text: *const u8, text_len: usize, out: *mut u8, out_len: usize) -> u64;
     fn sagebutton_digest(keys: *const u8, keys_len: usize, out: *mut u8, out_len: usize) -> u64;
+    fn sagebutton_attest(
+        key: *const u8,
+        key_len: usize,
+        keys: *const u8,
+        keys_len: usize,
+        out: *mut u8,
+        out_len: usize,
+    ) -> u64;
+    fn sagebutton_verify(
+        key: *const u8,
+        key_len: usize,
+        digest: *const u8,
+        digest_len: usize,
+        att: *const u8,
+        att_len: usize,
+    ) -> u64;
 }
 
 impl Function {
@@ -22,29 +41,60 @@ impl Function {
             Function::Hash => "hash",
             Function::ReadList => "read_list",
             Function::Digest => "digest",
+            Function::Attest => "attest",
+            Function::Verify => "verify",
         }
     }
 
-    /// Our library's packed answer; it writes into the output itself.
-    pub fn ours(self, input: &[u8], output: &mut [u8]) -> u64 {
-        let function = match self {
-            Function::Hash => sagebutton_hash,
-            Function::ReadList => sagebutton_read_list,
-            Function::Digest => sagebutton_digest,
-        };
-        // Both pointers are valid for their lengths and overlap nothing: they are slices.
-        unsafe { function(input.as_ptr(), input.len(), output.as_mut_ptr(), output.len()) }
+    /// Our library's packed answer; it writes into the output itself. Inputs are in the
+    /// header's order.
+    pub fn ours(self, inputs: &[&[u8]], output: &mut [u8]) -> u64 {
+        let (out, room) = (output.as_mut_ptr(), output.len());
+        let lent: Vec<(*const u8, usize)> =
+            inputs.iter().map(|input| (input.as_ptr(), input.len())).collect();
+        // Every pointer is valid for its length and overlaps no other: they are slices.
+        unsafe {
+            match (self, &lent[..]) {
+                (Function::Hash, [(msg, len)]) => sagebutton_hash(*msg, *len, out, room),
+                (Function::ReadList, [(text, len)]) => sagebutton_read_list(*text, *len, out, room),
+                (Function::Digest, [(keys, len)]) => sagebutton_digest(*keys, *len, out, room),
+                (Function::Attest, [(key, key_len), (keys, len)]) => {
+                    sagebutton_attest(*key, *key_len, *keys, *len, out, room)
+                }
+                (Function::Verify, [(key, key_len), (digest, digest_len), (att, len)]) => {
+                    sagebutton_verify(*key, *key_len, *digest, *digest_len, *att, *len)
+                }
+                _ => unreachable!("{} doesn't take {} inputs", self.name(), inputs.len()),
+            }
+        }
     }
 
     /// The reference's answer for a lent output of `room` octets.
-    pub fn reference(self, input: &[u8], room: usize) -> Outcome {
-        match self {
-            Function::Hash => second::sha256::hash(input, room),
-            Function::ReadList => second::list::read_list(input, room),
-            Function::Digest => second::tree::digest(input, room),
+    pub fn reference(self, inputs: &[&[u8]], room: usize) -> Outcome {
+        match (self, inputs) {
+            (Function::Hash, [message]) => second::sha256::hash(message, room),
+            (Function::ReadList, [text]) => second::list::read_list(text, room),
+            (Function::Digest, [keys]) => second::tree::digest(keys, room),
+            (Function::Attest, [key, keys]) => second::attestation::attest(key, keys, room),
+            (Function::Verify, [key, digest, attestation]) => {
+                second::verdict::verify(key, digest, attestation).map(accepted)
+            }
+            _ => unreachable!("{} doesn't take {} inputs", self.name(), inputs.len()),
         }
     }
 }
+
+/// The header's numbers for a verdict; nothing is written.
+fn accepted(verdict: Verdict) -> Accepted {
+    let value = match verdict {
+        Verdict::Present => PRESENT,
+        Verdict::Absent => ABSENT,
+    };
+    Accepted { value, written: Vec::new() }
+}
+
+pub const PRESENT: u32 = 1;
+pub const ABSENT: u32 = 0;
 
 /// Bits 0 to 31 the value or the place, bits 32 to 47 zero, bits 48 to 63 the number.
 pub fn packed(outcome: &Outcome) -> u64 {

@@ -7,7 +7,7 @@ use super::random::Random;
 use second::list::{key_of_code, Key};
 use std::collections::BTreeSet;
 
-type Damage = (&'static str, fn(&mut Vec<Key>, &mut Random));
+pub type Damage = (&'static str, fn(&mut Vec<Key>, &mut Random));
 
 pub fn run(comparison: &mut Comparison) {
     for round in 0..300 {
@@ -41,7 +41,7 @@ fn digest(comparison: &mut Comparison, name: &str, octets: &[u8]) {
 }
 
 /// So many different keys, ascending, in one of several looks.
-fn keys(random: &mut Random, how_many: usize) -> Vec<Key> {
+pub fn keys(random: &mut Random, how_many: usize) -> Vec<Key> {
     let look = random.below(6);
     let shared: Key = random.octets(20).try_into().unwrap();
     if look == 0 {
@@ -66,7 +66,7 @@ fn keys(random: &mut Random, how_many: usize) -> Vec<Key> {
 }
 
 /// A list handed to one of these has at least one key.
-const DAMAGES: [Damage; 14] = [
+pub const DAMAGES: [Damage; 14] = [
     ("sound", |_, _| ()),
     ("a key equal to the one before", |keys, random| {
         let at = random.position(keys.len());

@@ -2,6 +2,24 @@
 
 use super::random::Random;
 
+/// An input, and the octets that were cut off from its end, if any.
+#[derive(Clone, Copy)]
+pub struct Input<'a> {
+    pub octets: &'a [u8],
+    cut_off: &'a [u8],
+}
+
+impl<'a> Input<'a> {
+    pub fn whole(octets: &'a [u8]) -> Input<'a> {
+        Input { octets, cut_off: &[] }
+    }
+
+    pub fn cut(octets: &'a [u8], len: usize) -> Input<'a> {
+        let (octets, cut_off) = octets.split_at(len);
+        Input { octets, cut_off }
+    }
+}
+
 pub struct Lent {
     octets: Vec<u8>,
     start: usize,
@@ -18,17 +36,20 @@ impl Lent {
     }
 
     /// An input. Its guards often look like more input: a reader that runs over the end
-    /// would then find the LF, digit or code that is missing.
-    pub fn input(random: &mut Random, input: &[u8]) -> Lent {
+    /// would then find the octets cut off, or the LF, digit or code, the count or label
+    /// that is missing.
+    pub fn input(random: &mut Random, input: &Input) -> Lent {
         let before = random.between(16, 31);
         let before = random.octets(before);
-        let after = match random.below(4) {
+        let after = match random.below(6) {
             0 => random.octets(16),
             1 => b"\nZ\nZZ\nZZZ\nZZZZ\nZZZZZ\n".to_vec(),
             2 => b"Z\nZZ\nZZZ\nZZZZ\nZZZZZ\n".to_vec(),
+            3 => vec![0; 40],
+            4 => [&[1], &random.octets(32)[..], &[0; 7]].concat(),
             _ => random.octets_from(b"\n0123456789AZ-", 24),
         };
-        Lent::joined(before, input, after)
+        Lent::joined(before, input.octets, [input.cut_off, &after].concat())
     }
 
     fn joined(before: Vec<u8>, inside: &[u8], after: Vec<u8>) -> Lent {

@@ -1,26 +1,44 @@
 //! All comparisons, in the order in which they run.
 
+mod asked;
+mod attestations;
+mod changed;
 mod codes;
 mod comparison;
 mod damage;
+mod draft;
 mod examples;
 mod face;
+mod forged;
+mod forgery;
+mod issued;
+mod issuing;
 mod key_lists;
 mod lent;
 mod messages;
 mod nist;
+mod not_issued;
+mod places;
 mod program;
 mod random;
 mod readings;
 mod sheet;
 mod tally;
 mod texts;
+mod verdicts;
 
 use comparison::Comparison;
 use std::time::Instant;
 
 /// At least so many texts and key lists are generated.
 const GENERATED: u64 = 100_000;
+
+/// At least so many attestations are verified.
+const VERIFIED: u64 = 200_000;
+
+/// Document 01: the longest attestation that we issue, and the longest the verifier takes.
+const LONGEST_ISSUED: u32 = 586;
+const LONGEST_TAKEN: usize = 1_731;
 
 /// Runs everything; true if nothing differed and nothing was left unmet.
 pub fn run(seed: u64) -> bool {
@@ -32,10 +50,16 @@ pub fn run(seed: u64) -> bool {
     let texts = section(&mut comparison, "generated texts", texts::run);
     let key_lists = section(&mut comparison, "generated key lists", key_lists::run);
     section(&mut comparison, "generated messages", messages::run);
+    section(&mut comparison, "issuing", issuing::run);
+    section(&mut comparison, "not issued", not_issued::run);
+    let issued = section(&mut comparison, "issued attestations", issued::run);
+    let changed = section(&mut comparison, "changed attestations", changed::run);
+    let forged = section(&mut comparison, "forged attestations", forged::run);
+    let places = section(&mut comparison, "each place of an attestation", places::run);
     section(&mut comparison, "the program digest", program::run);
-    if texts + key_lists < GENERATED {
-        comparison.fail(&format!("only {} generated texts and key lists", texts + key_lists));
-    }
+    at_least(&mut comparison, "generated texts and key lists", texts + key_lists, GENERATED);
+    at_least(&mut comparison, "verifications", issued + changed + forged + places, VERIFIED);
+    judge_longest(&mut comparison);
     comparison.judge_tally();
     println!("{:.1} s", started.elapsed().as_secs_f64());
     println!("compare: {} cases, {} differences", comparison.cases, comparison.differences);
@@ -49,4 +73,19 @@ fn section(comparison: &mut Comparison, name: &str, run: fn(&mut Comparison)) ->
     let cases = comparison.cases - before;
     println!("{name}: {cases} cases");
     cases
+}
+
+fn at_least(comparison: &mut Comparison, name: &str, cases: u64, asked: u64) {
+    if cases < asked {
+        comparison.fail(&format!("only {cases} {name}"));
+    }
+}
+
+/// Both lengths were met, and neither was exceeded.
+fn judge_longest(comparison: &mut Comparison) {
+    let (issued, taken) = (comparison.tally.greatest("attest"), comparison.longest_taken);
+    println!("longest attestation issued {issued} octets, longest accepted {taken}");
+    if issued != LONGEST_ISSUED || taken != LONGEST_TAKEN {
+        comparison.fail("not the longest attestations of document 01");
+    }
 }

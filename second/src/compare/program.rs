@@ -90,7 +90,7 @@ fn compare(comparison: &mut Comparison, program: &PathBuf, name: &str, text: &[u
         let printed = String::from_utf8_lossy(&output.stdout);
         if printed != line || !output.stderr.is_empty() || output.status.code().is_none() {
             let fault = format!("prints {printed:?}, expected {line:?}; {}", output.status);
-            comparison.differs(name, "program digest", text, &fault);
+            comparison.differs(name, "program digest", &[text], &fault);
         }
     }
 }

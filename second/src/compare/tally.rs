@@ -1,13 +1,16 @@
 //! How often each rule was met, by function. A rule met too seldom is a failure, for a
 //! comparison that never reaches a rule says nothing about it.
 
+use super::face::PRESENT;
 use second::answer::*;
-use second::{list, sha256, tree};
+use second::{attestation, form, list, sha256, tree, verdict};
 use std::collections::{BTreeMap, BTreeSet};
 
 pub const PROGRAM: &str = "program";
 
 const ACCEPTED: &str = "accepted";
+const IS_PRESENT: &str = "Present";
+const IS_ABSENT: &str = "Absent";
 
 #[derive(Default)]
 struct Met {
@@ -31,13 +34,19 @@ impl Tally {
 
     pub fn count(&mut self, function: &'static str, outcome: &Outcome) {
         let (number, rule, value) = match outcome {
-            Ok(accepted) => (0, ACCEPTED, accepted.value),
+            Ok(accepted) => (0, accepted_as(function, accepted.value), accepted.value),
             Err(refusal) => (refusal.number, refusal.rule, refusal.place),
         };
         let rule = if function == PROGRAM { "" } else { rule };
         let met = self.met.entry((function, number, rule)).or_default();
         met.cases += 1;
         met.values.insert(value);
+    }
+
+    /// The greatest value answered by an accepted call, 0 if there was none.
+    pub fn greatest(&self, function: &'static str) -> u32 {
+        let met = self.met.get(&(function, 0, ACCEPTED));
+        met.and_then(|met| met.values.last()).copied().unwrap_or(0)
     }
 
     /// Prints the table; answers the rules met fewer times than asked.
@@ -65,12 +74,21 @@ impl Tally {
     }
 }
 
+/// A verdict is one of two; every other accepted call answers a number.
+fn accepted_as(function: &'static str, value: u32) -> &'static str {
+    match (function, value) {
+        ("verify", PRESENT) => IS_PRESENT,
+        ("verify", _) => IS_ABSENT,
+        _ => ACCEPTED,
+    }
+}
+
 const MANY: u64 = 100;
 
 const PROGRAM_NUMBERS: [u16; 8] =
     [0, SIZE, NO_KEYS, OVER_3000_KEYS, NOT_ASCENDING, FIRST_OR_SECOND_LINE, NOT_A_CODE, LINES_AND_COUNT];
 
-const RULES: [Rule; 23] = [
+const RULES: [Rule; 57] = [
     ("hash", 0, ACCEPTED),
     ("hash", SIZE, sha256::MESSAGE_TOO_LONG),
     ("hash", SIZE, sha256::OUTPUT_NOT_32),
@@ -94,4 +112,38 @@ const RULES: [Rule; 23] = [
     ("digest", NOT_A_MULTIPLE, tree::NOT_BY_20),
     ("digest", OVER_3000_KEYS, tree::OVER_3000),
     ("digest", NOT_ASCENDING, tree::NOT_STRICT),
+    ("attest", 0, ACCEPTED),
+    ("attest", SIZE, attestation::KEY_NOT_20),
+    ("attest", NO_KEYS, tree::EMPTY),
+    ("attest", NOT_A_MULTIPLE, tree::NOT_BY_20),
+    ("attest", OVER_3000_KEYS, tree::OVER_3000),
+    ("attest", NOT_ASCENDING, tree::NOT_STRICT),
+    ("attest", OUTPUT_TOO_SHORT, attestation::EXCEEDS_BUFFER),
+    ("verify", 0, IS_PRESENT),
+    ("verify", 0, IS_ABSENT),
+    ("verify", SIZE, verdict::KEY_NOT_20),
+    ("verify", SIZE, verdict::DIGEST_NOT_32),
+    ("verify", ATTESTATION_FORM, form::EMPTY),
+    ("verify", ATTESTATION_FORM, form::COUNT_0),
+    ("verify", ATTESTATION_FORM, form::COUNT_OVER_32),
+    ("verify", ATTESTATION_FORM, form::KEYS_END),
+    ("verify", ATTESTATION_FORM, form::FOOT_LEFT.no_count),
+    ("verify", ATTESTATION_FORM, form::FOOT_LEFT.count),
+    ("verify", ATTESTATION_FORM, form::FOOT_LEFT.label_ends),
+    ("verify", ATTESTATION_FORM, form::FOOT_RIGHT.no_count),
+    ("verify", ATTESTATION_FORM, form::FOOT_RIGHT.count),
+    ("verify", ATTESTATION_FORM, form::FOOT_RIGHT.label_ends),
+    ("verify", ATTESTATION_FORM, form::NO_SIBLINGS_COUNT),
+    ("verify", ATTESTATION_FORM, form::SIBLINGS_COUNT_LOW),
+    ("verify", ATTESTATION_FORM, form::SIBLINGS_COUNT_HIGH),
+    ("verify", ATTESTATION_FORM, form::SIBLING.no_count),
+    ("verify", ATTESTATION_FORM, form::SIBLING.count),
+    ("verify", ATTESTATION_FORM, form::SIBLING.label_ends),
+    ("verify", ATTESTATION_FORM, form::OCTETS_FOLLOW),
+    ("verify", CHILD_AT_THE_FOOT, verdict::LEFT_LABEL),
+    ("verify", CHILD_AT_THE_FOOT, verdict::RIGHT_LABEL),
+    ("verify", ABOVE_THE_FOOT, verdict::X_ABOVE),
+    ("verify", ABOVE_THE_FOOT, verdict::NEIGHBOURS_EQUAL),
+    ("verify", ABOVE_THE_FOOT, verdict::X_AND_NEIGHBOURS),
+    ("verify", DIGEST_DIFFERS, verdict::DIFFERS),
 ];
