@@ -1,10 +1,12 @@
 //! Our library against ordinary Rust. All sides do the same job on the same octets in
 //! turns, in one process; a ratio is the median of the ratios of turns side by side.
+//! `bench stack` measures instead how much stack ours takes.
 
 mod face;
 mod ordinary;
+mod stack;
 
-use ordinary::{sha256, tree};
+use ordinary::{attestation, sha256, tree, verdict};
 use std::hint::black_box;
 use std::process::ExitCode;
 use std::time::Instant;
@@ -24,6 +26,8 @@ struct Case {
 
 const HASH: Sides<Job> = [face::hash, sha256::hash::<1>, sha256::hash::<8>];
 const DIGEST: Sides<Job> = [face::digest, tree::digest::<1>, tree::digest::<8>];
+const ATTEST: Sides<Job> = [face::attest, attestation::attest::<1>, attestation::attest::<8>];
+const VERIFY: Sides<Job> = [face::verify, verdict::verify::<1>, verdict::verify::<8>];
 
 /// Odd, so that there is a middle one.
 const LAPS: usize = 151;
@@ -32,16 +36,41 @@ const LAPS: usize = 151;
 const TURN_NS: f64 = 2_000_000.0;
 
 fn cases() -> Vec<Case> {
-    let case = |name, jobs, input| Case { name, jobs, input, room: 32 };
+    let case = |name, jobs, input, room| Case { name, jobs, input, room };
+    let keys = ascending_keys(3_000);
+    let attested = [&keys[..20], &keys].concat();
+    let verified = deepest(&keys);
     vec![
-        case("hash of 85 octets", HASH, octets(85)),
-        case("hash of 117 octets", HASH, octets(117)),
-        case("hash of 65,535 octets", HASH, octets(65_535)),
-        case("digest of 3,000 keys", DIGEST, ascending_keys(3_000)),
+        case("hash of 85 octets", HASH, octets(85), 32),
+        case("hash of 117 octets", HASH, octets(117), 32),
+        case("hash of 65,535 octets", HASH, octets(65_535), 32),
+        case("digest of 3,000 keys", DIGEST, keys, 32),
+        case("attestation over 3,000 keys", ATTEST, attested, 586),
+        case("verification of a 12-level attestation", VERIFY, verified, 0),
     ]
 }
 
+/// The first key, which has the most keys above it, the digest and the attestation.
+fn deepest(keys: &[u8]) -> Vec<u8> {
+    let (mut digest, mut octets) = (vec![0; 32], vec![0; 586]);
+    tree::digest::<1>(keys, &mut digest).expect("the keys ascend");
+    let len = attestation::attest::<1>(&[&keys[..20], keys].concat(), &mut octets).expect("586 suffice");
+    assert_eq!(octets[0], 12, "the first of 3,000 keys is on level 12");
+    [&keys[..20], &digest, &octets[..len]].concat()
+}
+
 fn main() -> ExitCode {
+    match std::env::args().nth(1).as_deref() {
+        None => speed(),
+        Some("stack") => stack::run(&ascending_keys(3_000)),
+        Some(_) => {
+            eprintln!("usage: bench [stack]");
+            ExitCode::FAILURE
+        }
+    }
+}
+
+fn speed() -> ExitCode {
     println!("| case | ours, ns | Rust, ns | ratio | Rust by 8 rounds, ns | ratio |");
     println!("|---|---|---|---|---|---|");
     for case in cases() {
