@@ -42,10 +42,8 @@ pub fn last_label<const ROUNDS: usize>(x: &[u8], octets: &[u8]) -> Option<[u8; 3
     }
     let mut label = node::<ROUNDS>(left, foot, right);
     for (key, sibling) in above.chunks_exact(20).zip(siblings) {
-        label = match x < key {
-            true => node::<ROUNDS>(Some(&label), key, sibling),
-            false => node::<ROUNDS>(sibling, key, Some(&label)),
-        };
+        let (left, right) = if x < key { (Some(&label[..]), sibling) } else { (sibling, Some(&label[..])) };
+        label = node::<ROUNDS>(left, key, right);
     }
     Some(label)
 }

@@ -54,9 +54,12 @@ impl Draft {
         if side == Ordering::Equal {
             x = keys[0];
         }
-        let mut optional = || match random.below(4) < there {
-            true => Optional::there(label(random)),
-            false => Optional::ABSENT,
+        let mut optional = || {
+            if random.below(4) < there {
+                Optional::there(label(random))
+            } else {
+                Optional::ABSENT
+            }
         };
         let mut optionals: Vec<Optional> = (0..how_many + 1).map(|_| optional()).collect();
         match side {

@@ -53,13 +53,13 @@ fn issue_all(comparison: &mut Comparison, keys: &[Key], asked: &[Key]) {
     let list = keys.concat();
     let digest = our_digest(&list);
     for x in asked {
-        let len = issue(comparison, x, &list);
+        issue(comparison, x, &list);
         let listed = keys.binary_search(x).is_ok();
         let attestation = our_attestation(x, &list);
         let verdict = Expected::Accepted(if listed { PRESENT } else { ABSENT }, Vec::new());
         comparison.example("issued and judged", Function::Verify, &[x, &digest, &attestation], 0, &verdict);
-        if !listed && attestation.len() == len {
-            same_as_foot(comparison, &list, &attestation);
+        if !listed {
+            same_as_foot(comparison, x, &list, &attestation);
         }
     }
 }
@@ -72,16 +72,16 @@ fn our_digest(list: &[u8]) -> Vec<u8> {
 
 /// If it is refused, zeros, which no verdict accepts.
 fn our_attestation(x: &Key, list: &[u8]) -> Vec<u8> {
-    let mut octets = vec![0; 600];
+    let mut octets = vec![0; 586];
     let answer = Function::Attest.ours(&[x, list], &mut octets);
     octets.truncate(answer as usize);
     octets
 }
 
 /// Readings 9: an absent key's attestation is that of its foot's key.
-fn same_as_foot(comparison: &mut Comparison, list: &[u8], attestation: &[u8]) {
+fn same_as_foot(comparison: &mut Comparison, x: &Key, list: &[u8], attestation: &[u8]) {
     let expected = Expected::Accepted(attestation.len() as u32, attestation.to_vec());
-    let foot = &attestation[1..21];
+    let foot = attestation.get(1..21).unwrap_or(x);
     comparison.example("the foot's key", Function::Attest, &[foot, list], 586, &expected);
 }
 
