@@ -6,7 +6,8 @@
  *   bits 48 to 63   the number of the refusal, 0 if the call was accepted
  * A refusal writes nothing. An accepted call writes to the front of its output; octets beyond that stay as they were.
  *
- * A key is 20 octets: the code's ASCII octets, then zeros. 60,000 octets hold the keys of every list that is accepted.
+ * A key is 20 octets: the code's ASCII octets, then zeros. 60,000 octets hold the keys of every list that is accepted, and 586
+ * every attestation that is issued.
  *
  * What the caller must keep, since C cannot say it: each pointer is valid for its length and is not null, also for a length
  * of 0; an output overlaps no other argument; no length exceeds PTRDIFF_MAX; and no other thread writes to the arguments
@@ -42,6 +43,23 @@ uint64_t sagebutton_read_list(const uint8_t *text, size_t text_len, uint8_t *out
  * Refuses, in this order: 1 at 0, out_len not 32; 2 at 0, no keys; 3 at 0, not a multiple of 20 octets; 4 at 0, over 3,000
  * keys; 5 at the index, counted from 0, of the first key not above the one before. */
 uint64_t sagebutton_digest(const uint8_t *keys, size_t keys_len, uint8_t *out, size_t out_len);
+
+/* The attestation for a key, listed or not, under a list of keys, 20 octets each and strictly ascending, into the front of out.
+ * Answers its length.
+ * Refuses, in this order: 1 at 0, key_len not 20; 2, 3, 4 and 5 as sagebutton_digest; 6 at 0, out_len under the length. */
+uint64_t sagebutton_attest(const uint8_t *key, size_t key_len, const uint8_t *keys, size_t keys_len, uint8_t *out, size_t out_len);
+
+/* What an accepted attestation shows of the key: that it is listed, or that it is not. */
+#define SAGEBUTTON_PRESENT 1
+#define SAGEBUTTON_ABSENT 0
+
+/* The verdict on any octets, whoever made them, as an attestation for a key under a digest: SAGEBUTTON_PRESENT or
+ * SAGEBUTTON_ABSENT, if it is not refused. Look at sagebutton_refusal first: a refusal says nothing of the key.
+ * Refuses, in this order: 1 at 0, key_len not 20 or digest_len not 32; 7 at the offset of the first octet that cannot stand
+ * there, or at att_len if the attestation ends early; 8 at 0, a child at the foot where the key would be; 9 at the level, counted
+ * from the foot's 0, where the key itself stands above the foot or a key equals the one below it; 10 at 0, another digest. */
+uint64_t sagebutton_verify(const uint8_t *key, size_t key_len, const uint8_t *digest, size_t digest_len,
+                           const uint8_t *att, size_t att_len);
 
 #ifdef __cplusplus
 }
