@@ -6,7 +6,7 @@
  *   bits 48 to 63   the number of the refusal, 0 if the call was accepted
  * A refusal writes nothing. An accepted call writes to the front of its output; octets beyond that stay as they were.
  *
- * A key is 20 octets: the code's ASCII octets, then zeros. 60,000 octets hold the keys of every list that is accepted, and 586
+ * A key is any 20 octets; a code's are its ASCII octets, then zeros. 60,000 octets hold the keys of every list that is accepted, and 586
  * every attestation that is issued.
  *
  * What the caller must keep, since C cannot say it: each pointer is valid for its length and is not null, also for a length

@@ -25,6 +25,7 @@ pub fn attest(key: &[u8], keys: &[u8], out: &mut [u8]) -> Answer
     let Answer::Done(_) = a else {
         return a;
     };
+    // K, the siblings' count, and the second of the foot's two counts, where a level has one
     let n = 3 + issue::levels_length(keys, key);
     if out.len() < n {
         return Answer::Refused {

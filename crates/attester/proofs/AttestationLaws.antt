@@ -76,7 +76,7 @@ module _ (H : Octets → Octets) (es : List Octets) (x : Octets) where
   pub issued-present : 0 < length es → Ascending es → listed x es ≡ true → x ≡ key (foot-entry (search H x (tree es)))
   issued-present n up h = same-true x (key (foot-entry (search H x (tree es)))) (sym (issued-listed n up) ∙ h)
 
-  -- 01: an absent key's attestation is, octet for octet, that of its foot's key
+  -- an absent key's attestation is, octet for octet, that of its foot's key
   pub attestation-of-foot : 0 < length es → Ascending es
       → attestation H es x ≡ attestation H es (key (foot-entry (search H x (tree es))))
   unfolding attestation

@@ -1,4 +1,4 @@
--- What a list holds: entries of w octets, each with its key first. In the first edition an entry is its key, and w is 20.
+-- What a list holds: entries of w octets, each with its key first. In document 01 an entry is its key, and w is 20.
 use mathlib.Core.List.{List, [], _∷_}
 use Prim.Native.Nat.{ℕ, zero, suc}
 use lib.ListN.{take, drop}

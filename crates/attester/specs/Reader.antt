@@ -6,7 +6,7 @@ use lib.Dec.{leb}
 use lib.ListN.{length, take, drop}
 use Rattle.octets.specs.Order.{Octets}
 
--- 01, "Verdict", step 2: the octets end early, or an octet can't stand there; with it, so many octets were left
+-- 01, "Verdict", step 2: the octets end early, or an octet can't stand there: so many octets were left, that one included
 pub data Stop : Type 0 where
   short : Stop
   wrong : ℕ → Stop

@@ -29,6 +29,6 @@ unfoldable pub child-octets : Child → Octets
 child-octets none = replicate 32 0
 child-octets (some l) = l
 
--- 01: octet 0, the left child's label, the key (with it, in a later edition, its body), the right child's label
+-- 01: octet 0, the left child's label, the key (an entry, where it is more than its key), the right child's label
 unfoldable pub node-record : Child → Octets → Child → Octets
 node-record l e r = flag l r ∷ (child-octets l ++ (e ++ child-octets r))

@@ -23,7 +23,7 @@ onward (node l e r) on here = on
 
 module _ (H : Octets → Octets) (x : Octets) where
   -- 01: "For a listed key the foot is that key's node. For any other it is the last node that the search meets."
-  -- An accepted list has a node; in no tree the search meets none.
+  -- An accepted list's tree has a node; in a tree without one, the search ends at a foot of nothing.
   unfoldable pub search : Tree → Path
   search leaf = foot [] none none
   search (node l e r) =

@@ -1,23 +1,25 @@
 -- A promise that gives the answer and the buffer by definitions of the inputs is met by those alone.
 use mathlib.Core.Path.{refl, ap, _∙_}
+use Prim.Native.Nat.{ℕ}
 use native.Mathlib.Omega.{arith}
 use lib.ListN.{length}
 use Rattle.answer.specs.declared.Answer.the-variants.{Done, Refused}
 use Rattle.answer.specs.declared.Verdict.the-variants as verdict
-use Rattle.answer.specs.Answer.{written}
+use Rattle.answer.specs.Answer.{written, packed, verdict-packed}
+use Rattle.octets.specs.Order.{Octets}
 use Rattle.sha256.specs.Fips180.{sha256}
-use Rattle.sha256.specs.Hash.{hash-answer}
+use Rattle.sha256.specs.Hash.{Hashed, hash-answer}
 use Rattle.codes.specs.Text.{reading}
-use Rattle.codes.specs.Read.{answer, keys}
-use Rattle.tree.specs.Digest.{digest-answer, digest-octets}
+use Rattle.codes.specs.Read.{Read, answer, keys}
+use Rattle.tree.specs.Digest.{Digested, digest-answer, digest-octets}
 use Rattle.tree.specs.Edition.{hash, width, most}
 use Rattle.attester.specs.Verify.{verify}
-use Rattle.attestation.specs.Attest.{attest-answer, attest-octets}
-use Rattle.attestation.specs.Verify.{verdict-of}
+use Rattle.attestation.specs.Attest.{Attested, attest-answer, attest-octets}
+use Rattle.attestation.specs.Verify.{Verified, verdict-of}
 use Rattle.sagebutton.specs.Packed.{Packing, Verdict-packing}
-use Rattle.sagebutton.specs.OneOutcome.{Hash-has-one-outcome, Read-list-has-one-outcome, Digest-has-one-outcome, Attest-has-one-outcome, Verify-has-one-outcome, Exports-have-one-outcome}
+use Rattle.sagebutton.specs.OneOutcome.{One-outcome, Numbered, Lends-nothing, Every-input-has-one-outcome}
 
-pub hash-has-one-outcome : Hash-has-one-outcome
+hash-has-one-outcome : (msg out : Octets) → One-outcome (Hashed msg out)
 hash-has-one-outcome msg out = record {
   answer = hash-answer msg (length out);
   buffer = written (hash-answer msg (length out)) (sha256 msg) out;
@@ -25,7 +27,7 @@ hash-has-one-outcome msg out = record {
   only = λ r out′ m. (m .answered, cc);
 }
 
-pub read-list-has-one-outcome : Read-list-has-one-outcome
+read-list-has-one-outcome : (text out : Octets) → One-outcome (Read text out)
 read-list-has-one-outcome text out = record {
   answer = answer (reading (length out) text);
   buffer = written (answer (reading (length out) text)) (keys (reading (length out) text)) out;
@@ -33,7 +35,7 @@ read-list-has-one-outcome text out = record {
   only = λ r out′ m. (m .answered, cc);
 }
 
-pub digest-has-one-outcome : Digest-has-one-outcome
+digest-has-one-outcome : (list out : Octets) → One-outcome (Digested list out)
 digest-has-one-outcome list out = record {
   answer = digest-answer width most list (length out);
   buffer = written (digest-answer width most list (length out)) (digest-octets hash width most list) out;
@@ -41,7 +43,7 @@ digest-has-one-outcome list out = record {
   only = λ r out′ m. (m .answered, cc);
 }
 
-pub attest-has-one-outcome : Attest-has-one-outcome
+attest-has-one-outcome : (x list out : Octets) → One-outcome (Attested x list out)
 attest-has-one-outcome x list out = record {
   answer = attest-answer hash width most x list (length out);
   buffer = written (attest-answer hash width most x list (length out)) (attest-octets hash width most x list) out;
@@ -49,20 +51,35 @@ attest-has-one-outcome x list out = record {
   only = λ r out′ m. (m .answered, cc);
 }
 
-pub verify-has-one-outcome : Verify-has-one-outcome
+verify-has-one-outcome : (x d a : Octets) → One-outcome (Lends-nothing (Verified x d a))
 verify-has-one-outcome x d a = record {
   answer = verdict-of (verify hash width x d a);
   buffer = tt;
   permitted = record { answered = refl };
-  only = λ v none m. (m .answered, refl);
+  only = λ v nothing m. (m .answered, refl);
 }
 
-pub exports-have-one-outcome : Exports-have-one-outcome
-exports-have-one-outcome A B pack Meets o = record {
+-- whatever promise has one outcome, its export has
+exported : {A B : Type 0} (pack : A → ℕ) (Meets : A → B → Type 0) → One-outcome Meets → One-outcome (Numbered pack Meets)
+exported pack Meets o = record {
   answer = pack (o .answer);
   buffer = o .buffer;
   permitted = record { told = o .answer; meets = o .permitted; is = refl };
   only = λ r b p. let h = o .only (p .told) b (p .meets) in (p .is ∙ ap pack (h .0), h .1);
+}
+
+pub every-input-has-one-outcome : Every-input-has-one-outcome
+every-input-has-one-outcome = record {
+  hash = hash-has-one-outcome;
+  read-list = read-list-has-one-outcome;
+  digest = digest-has-one-outcome;
+  attest = attest-has-one-outcome;
+  verify = verify-has-one-outcome;
+  exported-hash = λ msg out. exported packed (Hashed msg out) (hash-has-one-outcome msg out);
+  exported-read-list = λ text out. exported packed (Read text out) (read-list-has-one-outcome text out);
+  exported-digest = λ list out. exported packed (Digested list out) (digest-has-one-outcome list out);
+  exported-attest = λ x list out. exported packed (Attested x list out) (attest-has-one-outcome x list out);
+  exported-verify = λ x d a. exported verdict-packed (Lends-nothing (Verified x d a)) (verify-has-one-outcome x d a);
 }
 
 pub packing : Packing

@@ -17,6 +17,7 @@ use Rattle.attester.specs.Entry.{entries}
 use Rattle.attester.specs.Label.{digest}
 use Rattle.attester.specs.Listing.{Listing}
 use Rattle.attester.specs.Search.{listed}
+use Rattle.attester.specs.Attestation.{attestation}
 use Rattle.attester.specs.Longest.{Issued, Taken, Longest}
 use Rattle.codes.specs.Read.{Read}
 use Rattle.tree.specs.Digest.{Digested}
@@ -24,39 +25,53 @@ use Rattle.tree.specs.Edition.{hash, width, most}
 use Rattle.attestation.specs.Attest.{Attested}
 use Rattle.attestation.specs.Verify.{Verified}
 
--- For the keys of a list and a key x: what `digest` answered, r, and left, d′; what `attest` answered in so much room, s, and
--- left, out′; and then any verdict of `verify` on the attestation's octets in out′ under d′.
-pub record Attests (keys : List Octets) (x : Octets) (r : Answer) (d′ : Octets) (room : ℕ) (s : Answer) (out′ : Octets) : Type 0 where
-  pub digest-answers : r ≡ Done (length keys)
-  pub digest-leaves : d′ ≡ digest hash keys
-  pub size : ℕ
-  pub size-most : size ≤ 586
-  pub attest-answers : s ≡ cond (leb size room) (Done size) (Refused too-short 0)
-  pub verify-answers : size ≤ room → (v : Verdict) → Verified x d′ (take size out′) v → v ≡ cond (listed x keys) Present Absent
+-- A list that `digest` accepted, with its n keys and what was left, d′; an attestation for x that `attest` issued under it, the
+-- first m octets of what was left, out′; and any verdict of `verify` on those octets under d′.
+abbrev pub Issued-is-accepted : Type 0
+Issued-is-accepted =
+    (keys d : Octets) (n : ℕ) (d′ : Octets) → Digested keys d (Done n) d′
+    → (x out : Octets) (m : ℕ) (out′ : Octets) → Attested x keys out (Done m) out′
+    → (v : Verdict) → Verified x d′ (take m out′) v → v ≡ cond (listed x (entries width n keys)) Present Absent
 
--- A listing is 1 to 3,000 keys of 20 octets, strictly ascending.
-abbrev pub Demand-2 : Type 0
-Demand-2 = (keys : List Octets) → Listing width most keys
+-- what `attest` answers for the key x under an accepted list, in so much room: 6 exactly when the attestation is longer, and for
+-- none is more than 586 needed
+pub record Issues (keys : List Octets) (x : Octets) (room : ℕ) (s : Answer) : Type 0 where
+  pub answers : s ≡ cond (leb (length (attestation hash keys x)) room) (Done (length (attestation hash keys x))) (Refused too-short 0)
+  pub length-most : length (attestation hash keys x) ≤ 586
+
+-- An attestation is issued for any key of 20 octets under any list that `digest` accepted, if there is room.
+abbrev pub Issued-if-it-fits : Type 0
+Issued-if-it-fits =
+    (keys d : Octets) (n : ℕ) (d′ : Octets) → Digested keys d (Done n) d′
+    → (x : Octets) → length x ≡ 20 → (out : Octets) (s : Answer) (out′ : Octets) → Attested x keys out s out′
+    → Issues (entries width n keys) x (length out) s
+
+-- The accepted lists are those of 1 to 3,000 keys of 20 octets, strictly ascending: each is accepted, with its digest,
+abbrev pub Listings-are-accepted : Type 0
+Listings-are-accepted =
+    (keys : List Octets) → Listing width most keys
     → (d : Octets) → length d ≡ 32 → (r : Answer) (d′ : Octets) → Digested (flatten keys) d r d′
-    → (x : Octets) → length x ≡ 20 → (out : Octets) (s : Answer) (out′ : Octets) → Attested x (flatten keys) out s out′
-    → Attests keys x r d′ (length out) s out′
+    → (r ≡ Done (length keys)) × (d′ ≡ digest hash keys)
 
--- "any list we accept": these octets are a listing's, one key after another
+-- these octets are such a list's, one key after another
 pub record Listing-of (n : ℕ) (octets : Octets) : Type 0 where
   pub listing : Listing width most (entries width n octets)
   pub whole : octets ≡ flatten (entries width n octets)
 
--- `digest` accepts no other list
+-- and no other is.
 abbrev pub Accepted-are-listings : Type 0
 Accepted-are-listings = (keys d : Octets) (n : ℕ) (d′ : Octets) → Digested keys d (Done n) d′ → Listing-of n keys
 
--- and what `read_list` wrote of an accepted text is one; `Demand1` says that it is the text's
+-- What `read_list` wrote of an accepted text is such a list. `Demand1` says that it is the text's.
 abbrev pub Read-are-listings : Type 0
 Read-are-listings = (text out : Octets) (n : ℕ) (out′ : Octets) → Read text out (Done n) out′ → Listing-of n (take (width * n) out′)
 
 -- 01, "The attestation": "The longest the verifier takes is 1,731 octets; the longest we issue is 586." Each is reached.
-abbrev pub Longest-issued : Type 0
-Longest-issued = Longest (Issued hash width most) 586
-
-abbrev pub Longest-taken : Type 0
-Longest-taken = Longest (Taken hash width) 1731
+pub record Demand-2 : Type 0 where
+  pub issued-is-accepted : Issued-is-accepted
+  pub issued-if-it-fits : Issued-if-it-fits
+  pub listings-are-accepted : Listings-are-accepted
+  pub accepted-are-listings : Accepted-are-listings
+  pub read-are-listings : Read-are-listings
+  pub longest-issued : Longest (Issued hash width most) 586
+  pub longest-taken : Longest (Taken hash width) 1731

@@ -1,6 +1,9 @@
--- 01, "Promises that bind": every input has one permitted answer and one permitted final content of each lent buffer.
+-- 01, "Promises that bind": "every input has one permitted answer and one permitted final content of each lent buffer". Proved in
+-- `proofs/OneOutcome.antt`.
 use mathlib.Core.Path.{_≡_}
 use Prim.Native.Nat.{ℕ}
+use Rattle.answer.specs.declared.Verdict.{Verdict}
+use Rattle.answer.specs.Answer.{packed, verdict-packed}
 use Rattle.octets.specs.Order.{Octets}
 use Rattle.sha256.specs.Hash.{Hashed}
 use Rattle.codes.specs.Read.{Read}
@@ -16,27 +19,23 @@ pub record One-outcome {A B : Type 0} (Meets : A → B → Type 0) : Type 0 wher
   pub permitted : Meets answer buffer
   pub only : (a : A) (b : B) → Meets a b → (a ≡ answer) × (b ≡ buffer)
 
--- the hash
-abbrev pub Hash-has-one-outcome : Type 0
-Hash-has-one-outcome = (msg out : Octets) → One-outcome (Hashed msg out)
+-- the number that an export answers, in place of the answer
+abbrev pub Numbered : {A B : Type 0} → (A → ℕ) → (A → B → Type 0) → ℕ → B → Type 0
+Numbered pack Meets r b = Packed pack (λ a. Meets a b) r
 
--- reading a list
-abbrev pub Read-list-has-one-outcome : Type 0
-Read-list-has-one-outcome = (text out : Octets) → One-outcome (Read text out)
+-- `verify` is lent no buffer
+abbrev pub Lends-nothing : (Verdict → Type 0) → Verdict → Unit {0} → Type 0
+Lends-nothing Meets v nothing = Meets v
 
--- the digest
-abbrev pub Digest-has-one-outcome : Type 0
-Digest-has-one-outcome = (keys out : Octets) → One-outcome (Digested keys out)
-
--- issuing
-abbrev pub Attest-has-one-outcome : Type 0
-Attest-has-one-outcome = (x keys out : Octets) → One-outcome (Attested x keys out)
-
--- verifying, to which no buffer is lent
-abbrev pub Verify-has-one-outcome : Type 0
-Verify-has-one-outcome = (x d a : Octets) → One-outcome {B = Unit {0}} (λ v none. Verified x d a v)
-
--- The same for an exported function, whose answer is a number: whatever promise has one outcome, its export has.
-abbrev pub Exports-have-one-outcome : Type 1
-Exports-have-one-outcome =
-    (A B : Type 0) (pack : A → ℕ) (Meets : A → B → Type 0) → One-outcome Meets → One-outcome (λ r b. Packed pack (λ a. Meets a b) r)
+-- each public function, and each export
+pub record Every-input-has-one-outcome : Type 0 where
+  pub hash : (msg out : Octets) → One-outcome (Hashed msg out)
+  pub read-list : (text out : Octets) → One-outcome (Read text out)
+  pub digest : (keys out : Octets) → One-outcome (Digested keys out)
+  pub attest : (x keys out : Octets) → One-outcome (Attested x keys out)
+  pub verify : (x d a : Octets) → One-outcome (Lends-nothing (Verified x d a))
+  pub exported-hash : (msg out : Octets) → One-outcome (Numbered packed (Hashed msg out))
+  pub exported-read-list : (text out : Octets) → One-outcome (Numbered packed (Read text out))
+  pub exported-digest : (keys out : Octets) → One-outcome (Numbered packed (Digested keys out))
+  pub exported-attest : (x keys out : Octets) → One-outcome (Numbered packed (Attested x keys out))
+  pub exported-verify : (x d a : Octets) → One-outcome (Numbered verdict-packed (Lends-nothing (Verified x d a)))

@@ -5,7 +5,7 @@ use Rattle.answer.specs.declared.Answer.{Answer}
 use Rattle.answer.specs.declared.Verdict.{Verdict}
 use Rattle.answer.specs.Answer.{number, value, packed, verdict-number, verdict-value, verdict-packed}
 
--- r is the number, by `pack`, of some answer that meets the promise; `Packing` and `Verdict-packing` say that it tells which
+-- r is the number, by `pack`, of some answer that meets the promise
 pub record Packed {A : Type 0} (pack : A → ℕ) (Meets : A → Type 0) (r : ℕ) : Type 0 where
   pub told : A
   pub meets : Meets told
@@ -17,7 +17,7 @@ pub record Bits (r refusal value-or-place : ℕ) : Type 0 where
   pub middle : r / 2 ^ 32 % 2 ^ 16 ≡ 0
   pub high : r / 2 ^ 48 ≡ refusal
 
--- the code's answers have values below 2 ^ 32
+-- the fields of the code's answers have 16 and 32 bits; `proofs/OneOutcome.antt` proves both
 abbrev pub Packing : Type 0
 Packing = (a : Answer) → value a < 2 ^ 32 → Bits (packed a) (number a) (value a)
 

@@ -1,5 +1,5 @@
 //! Named examples with their answers written down by hand: those of reading, and document
-//! 01's limits of key lists and messages with point 7 of its readings. Digests and hashes
+//! 01's limits of key lists and messages with what docs/DECISIONS.md settles. Digests and hashes
 //! here were worked out with other tools.
 
 use super::comparison::{octets_of_hex, Comparison, Expected};
@@ -42,11 +42,11 @@ fn key_lists(comparison: &mut Comparison) {
         ),
         ("7f before 80", [[0x7f; 20], [0x80; 20]].concat(), 32, Accepted(2, octets_of_hex(DIGEST_7F_80))),
         ("80 before 7f", [[0x80; 20], [0x7f; 20]].concat(), 32, Refused(5, 1)),
-        ("readings 7: the empty list", vec![], 32, Refused(2, 0)),
-        ("readings 7: 1 octet", vec![7], 32, Refused(3, 0)),
-        ("readings 7: 19 octets", vec![7; 19], 32, Refused(3, 0)),
-        ("readings 7: 21 octets", vec![7; 21], 32, Refused(3, 0)),
-        ("readings 7: 3 before 4", counter(3_001)[..60_001].to_vec(), 32, Refused(3, 0)),
+        ("the empty list", vec![], 32, Refused(2, 0)),
+        ("1 octet", vec![7], 32, Refused(3, 0)),
+        ("19 octets", vec![7; 19], 32, Refused(3, 0)),
+        ("21 octets", vec![7; 21], 32, Refused(3, 0)),
+        ("3 before 4", counter(3_001)[..60_001].to_vec(), 32, Refused(3, 0)),
         ("3 before 4, far over", counter(3_002)[..60_039].to_vec(), 32, Refused(3, 0)),
         ("output of 31", f.clone(), 31, Refused(1, 0)),
         ("output of 33", f.clone(), 33, Refused(1, 0)),

@@ -1,5 +1,5 @@
 //! Named examples of verdicts with their answers written down by hand: document 01's, and
-//! points 10 to 13 of its readings. Digests here were worked out with other tools.
+//! the open points of it that docs/DECISIONS.md settles. Digests here were worked out with other tools.
 
 use super::attestations::{of_1_1, of_2_7, of_3_4, there, LABEL_1_1};
 use super::comparison::{octets_of_hex, Comparison, Expected};
@@ -166,9 +166,9 @@ fn too_long(comparison: &mut Comparison) {
     let (x, d) = ([0x20; 20], octets_of_hex(PRESENT_32));
     for more in [1, 32, 65_536 - 1_731, 65_536, 1 << 20] {
         let long = [of_32(true, true), vec![0; more]].concat();
-        judge(comparison, "readings 10: 1,731 and more", &x, &d, &long, Refused(7, 1_731));
+        judge(comparison, "1,731 and more", &x, &d, &long, Refused(7, 1_731));
     }
-    judge(comparison, "readings 10: 65,536 zeros", &x, &d, &vec![0; 65_536], Refused(7, 0));
+    judge(comparison, "65,536 zeros", &x, &d, &vec![0; 65_536], Refused(7, 0));
 }
 
 const DIGEST_ZEROS_3_4: &str = "e70d45a80c5e66a0334e792019ca862fbbee690bbcf9389002e6e31e346b1c40";
