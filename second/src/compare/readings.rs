@@ -1,5 +1,5 @@
 //! Named examples of reading with their answers written down by hand: document 01's, and
-//! each case of the readings of its open points on texts (1 to 6).
+//! the open points of it on texts that docs/DECISIONS.md settles.
 
 use super::comparison::Expected;
 use Expected::{Accepted, Refused};
