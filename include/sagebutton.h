@@ -6,8 +6,9 @@
  *   bits 48 to 63   the number of the refusal, 0 if the call was accepted
  * A refusal writes nothing. An accepted call writes to the front of its output; octets beyond that stay as they were.
  *
- * A key is any 20 octets; a code's are its ASCII octets, then zeros. 60,000 octets hold the keys of every list that is accepted, and 586
- * every attestation that is issued.
+ * A key is any 20 octets; a code's key is its 1 to 20 ASCII octets, then zeros. sagebutton_attest and sagebutton_verify do not ask
+ * whether a key is a code's: one made of `04-Mar` comes out absent. 60,000 octets hold the keys of every list that is accepted,
+ * and 586 every attestation that is issued.
  *
  * What the caller must keep, since C cannot say it: each pointer is valid for its length and is not null, also for a length
  * of 0; an output overlaps no other argument; no length exceeds PTRDIFF_MAX; and no other thread writes to the arguments
@@ -49,15 +50,17 @@ uint64_t sagebutton_digest(const uint8_t *keys, size_t keys_len, uint8_t *out, s
  * Refuses, in this order: 1 at 0, key_len not 20; 2, 3, 4 and 5 as sagebutton_digest; 6 at 0, out_len under the length. */
 uint64_t sagebutton_attest(const uint8_t *key, size_t key_len, const uint8_t *keys, size_t keys_len, uint8_t *out, size_t out_len);
 
-/* What an accepted attestation shows of the key: that it is listed, or that it is not. */
+/* What an accepted attestation shows of the key: that it is listed, or that it is not. README.md, "What is assumed", says on what
+ * that rests. */
 #define SAGEBUTTON_PRESENT 1
 #define SAGEBUTTON_ABSENT 0
 
 /* The verdict on any octets, whoever made them, as an attestation for a key under a digest: SAGEBUTTON_PRESENT or
- * SAGEBUTTON_ABSENT, if it is not refused. Look at sagebutton_refusal first: a refusal says nothing of the key.
+ * SAGEBUTTON_ABSENT, if it is not refused. Look at sagebutton_refusal first, or compare the whole
+ * result: a refusal says nothing of the key.
  * Refuses, in this order: 1 at 0, key_len not 20 or digest_len not 32; 7 at the offset of the first octet that cannot stand
  * there, or at att_len if the attestation ends early; 8 at 0, a child at the foot where the key would be; 9 at the level, counted
- * from the foot's 0, where the key itself stands above the foot or a key equals the one below it; 10 at 0, another digest. */
+ * from the foot's 0, where the key itself stands above the foot or a key equals the one below it; 10 at 0, the digest differs. */
 uint64_t sagebutton_verify(const uint8_t *key, size_t key_len, const uint8_t *digest, size_t digest_len,
                            const uint8_t *att, size_t att_len);
 

@@ -28,7 +28,7 @@ int main(void)
 
     for (int i = 0; i < 2; i++) {
         memset(key, 0, sizeof key);
-        memcpy(key, codes[i], strlen(codes[i]));
+        memcpy(key, codes[i], strlen(codes[i])); /* a code has at most 20 octets */
         uint64_t issued = sagebutton_attest(key, 20, keys, keys_len, att, sizeof att);
         if (sagebutton_refusal(issued))
             return 1;

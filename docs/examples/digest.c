@@ -17,6 +17,7 @@ int main(void)
         printf("refused %u %u\n", sagebutton_refusal(read), (unsigned)sagebutton_value(read));
         return 1;
     }
+    /* what was read is always accepted */
     sagebutton_digest(keys, 20 * (size_t)sagebutton_value(read), digest, sizeof digest);
     printf("digest %u ", (unsigned)sagebutton_value(read));
     for (int i = 0; i < 32; i++)
