@@ -41,6 +41,10 @@ key-above = 9
 abbrev pub other-digest : ℕ
 other-digest = 10
 
+-- no contradiction
+abbrev pub no-contradiction : ℕ
+no-contradiction = 11
+
 -- first or second line
 abbrev pub head : ℕ
 head = 12

@@ -23,6 +23,8 @@ pub const KEY_ABOVE: u16 = 9;
 
 pub const OTHER_DIGEST: u16 = 10;
 
+pub const NO_CONTRADICTION: u16 = 11;
+
 pub const HEAD: u16 = 12;
 
 pub const NOT_A_CODE: u16 = 13;

@@ -12,12 +12,13 @@ use Rattle.answer.specs.Refusals.{size}
 use Rattle.answer.specs.Refusals as refusal
 use Rattle.octets.specs.Order.{Octets}
 use Rattle.attester.specs.Verdict.{judge}
-use Rattle.attester.specs.Form.{formed, ended, spoilt, sections, form}
+use Rattle.attester.specs.Form.{formed, ended, spoilt, sections, path-read, form}
+use Rattle.attester.specs.Form as form
 use Rattle.attester.proofs.SectionLaws.{form-formed}
 use Rattle.attester.proofs.VerifyLaws.{verify-key-size, verify-digest-size, verify-ended, verify-spoilt, verify-formed}
 use Rattle.tree.specs.Edition.{hash, width}
 use Rattle.attestation.specs.Form.{read-answer}
-use Rattle.attestation.specs.Shown.{shown, path-read, Formed}
+use Rattle.attestation.specs.Shown.{shown, Formed}
 use Rattle.attestation.specs.Verify.{verdict-of, Verified}
 use Rattle.attestation.proofs.FormLaws.{form-done, form-refused}
 
@@ -42,7 +43,7 @@ module _ (x d a : Octets) where
 
 -- the answer `Done` says that the octets have the form
 pub formed-done : (a : Octets) {r : Answer} {n : ℕ} → r ≡ read-answer (length a) (sections width a) → r ≡ Done n → Formed a
-unfolding shown
+unfolding form.shown
 formed-done a told e =
     let g = form-done width a told e in
     let f = form-formed width a (g .0) (g .1) (g .2) in

@@ -1,30 +1,24 @@
 -- What octets of the form show, in the code's terms: which octet stands where.
 use mathlib.Core.Path.{_≡_}
 use mathlib.Core.Bool.{cond}
-use mathlib.Core.List.{[]}
 use mathlib.Core.Option.{Option, none, some}
 use Prim.Native.Nat.{ℕ, suc, _+_, _*_}
 use lib.Dec.{eqb}
 use lib.ListN.{take, drop, getD}
 use Rattle.octets.specs.Order.{Octets}
 use Rattle.attester.specs.Record.{Child}
-use Rattle.attester.specs.Path.{Path, foot}
-use Rattle.attester.specs.Form.{Form, formed, ended, spoilt, form}
+use Rattle.attester.specs.Path.{Path}
+use Rattle.attester.specs.Form.{formed}
+use Rattle.attester.specs.Form as form
 use Rattle.tree.specs.Edition.{width}
 
--- the path that was read; a foot of nothing where none was
-abbrev pub path-read : Form → Path
-path-read (formed p) = p
-path-read (ended n) = foot [] none none
-path-read (spoilt n) = foot [] none none
-
 -- the path that the octets show
-unfoldable pub shown : Octets → Path
-shown a = path-read (form width a)
+abbrev pub shown : Octets → Path
+shown a = form.shown width a
 
 -- the octets have the form
 abbrev pub Formed : Octets → Type 0
-Formed a = form width a ≡ formed (shown a)
+Formed a = form.form width a ≡ formed (shown a)
 
 -- 01: kj
 unfoldable pub key-at : Octets → ℕ → Octets

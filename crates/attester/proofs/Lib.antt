@@ -23,3 +23,7 @@ pub mod LongestLaws
 pub mod NumberedLaws
 pub mod ReachedLaws
 pub mod Longest
+pub mod RootLaws
+pub mod WalkLaws
+pub mod Demand3
+pub mod ExtractLaws

@@ -98,6 +98,16 @@ module _ (x e : Octets) (s : Child) (p : Path) (clean : fault x p ≡ none) wher
   unfolding fault
   fault-none h k = rw (clean, h, k)
 
+-- where step 4 finds no fault, it finds none one level down, and x is not the key
+pub fault-below : (x e : Octets) (s : Child) (p : Path) → fault x (step e s p) ≡ none → (fault x p ≡ none) × (same x (key e) ≡ false)
+unfolding fault
+fault-below x e s p h = go (fault x p) (same x (key e)) (same (key (top p)) (key e)) h
+  where
+    go : (o : Option ℕ) (a b : Bool) → lowest o (a || b) (suc (height p)) ≡ none → (o ≡ none) × (a ≡ false)
+    go (some i) a b k = let z : _≡_ {A = ℕ} 0 1 = cc in absurd (omega arith)
+    go none true b k = let z : _≡_ {A = ℕ} 0 1 = cc in absurd (omega arith)
+    go none false b k = (refl, refl)
+
 -- the foot is on no level above itself
 pub fault-above : (x : Octets) (p : Path) (j : ℕ) → fault x p ≡ some j → 0 < j
 unfolding fault

@@ -64,3 +64,13 @@ placed n (stopped (wrong left)) = spoilt (n - left)
 -- 01, step 2: the form of the octets a
 unfoldable pub form : ℕ → Octets → Form
 form w a = placed (length a) (sections w a)
+
+-- the path that was read; a foot of nothing where none was
+abbrev pub path-read : Form → Path
+path-read (formed p) = p
+path-read (ended n) = foot [] none none
+path-read (spoilt n) = foot [] none none
+
+-- the path that octets of the form show
+unfoldable pub shown : ℕ → Octets → Path
+shown w a = path-read (form w a)

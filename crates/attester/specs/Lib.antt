@@ -14,3 +14,6 @@ pub mod Search
 pub mod Attestation
 pub mod Demand2
 pub mod Longest
+pub mod Walk
+pub mod Extract
+pub mod Demand3
