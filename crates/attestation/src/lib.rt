@@ -1,7 +1,7 @@
 // Attestations: issuing one for a key under a list, and judging one for a key under a digest.
 mod form;
 mod issue;
-mod judge;
+pub mod judge;
 mod parts;
 mod shown;
 

@@ -1,8 +1,8 @@
 -- What `extract` answers, case by case, in the order of 01.
 use mathlib.Core.Path.{_≡_, refl}
+use mathlib.Core.Bool.{true, false}
 use mathlib.Core.Option.{Option, some}
 use Prim.Native.Nat.{ℕ}
-use borrow.Author.Tests.{eq-eqb, ne-eqb}
 use lib.ListN.{length}
 use Rattle.answer.specs.Refusals.{size, no-contradiction}
 use Rattle.octets.specs.Order.{Octets}
@@ -11,7 +11,7 @@ use Rattle.attester.specs.Verdict as verdict
 use Rattle.attester.specs.Form.{shown}
 use Rattle.attester.specs.Verify.{verify}
 use Rattle.attester.specs.Walk.{Found, walk}
-use Rattle.attester.specs.Extract.{extracted, refused, contradiction, extract}
+use Rattle.attester.specs.Extract.{extracted, refused, contradiction, sized, extract}
 
 -- Two verdicts
 
@@ -40,44 +40,29 @@ contradiction-found absent (verdict.refused i j) f g h differ = absurd h
 -- The extractor
 
 module _ (H : Octets → Octets) (w : ℕ) (x d a b : Octets) (n m : ℕ) where
-  pub extract-key-size : (length x ≡ 20 → ⊥) → extract H w x d a b n m ≡ refused size 0
+  pub extract-unsized : sized w (length x) (length d) n m ≡ false → extract H w x d a b n m ≡ refused size 0
   unfolding extract
-  extract-key-size h = rw (ne-eqb (length x) 20 h)
+  extract-unsized h = rw h
 
-  module _ (x-size : length x ≡ 20) where
-    pub extract-digest-size : (length d ≡ 32 → ⊥) → extract H w x d a b n m ≡ refused size 0
+  module _ (sizes : sized w (length x) (length d) n m ≡ true) where
+    extract-sized : extract H w x d a b n m ≡ contradiction (verify H w x d a) (verify H w x d b) (walk H x (shown w a) (shown w b))
     unfolding extract
-    extract-digest-size h = rw (eq-eqb (length x) 20 x-size, ne-eqb (length d) 32 h)
+    extract-sized = rw sizes
 
-    module _ (d-size : length d ≡ 32) where
-      pub extract-first-size : (n ≡ 85 → ⊥) → extract H w x d a b n m ≡ refused size 0
-      unfolding extract
-      extract-first-size h = rw (eq-eqb (length x) 20 x-size, eq-eqb (length d) 32 d-size, ne-eqb n 85 h)
+    pub extract-first : (k p : ℕ) → verify H w x d a ≡ verdict.refused k p → extract H w x d a b n m ≡ refused k 1
+    unfolding contradiction
+    extract-first k p h = rw (extract-sized, h)
 
-      module _ (n-size : n ≡ 85) where
-        pub extract-second-size : (m ≡ 85 → ⊥) → extract H w x d a b n m ≡ refused size 0
-        unfolding extract
-        extract-second-size h = rw (eq-eqb (length x) 20 x-size, eq-eqb (length d) 32 d-size, eq-eqb n 85 n-size, ne-eqb m 85 h)
+    module _ (first : Accepted (verify H w x d a)) where
+      pub extract-second : (k p : ℕ) → verify H w x d b ≡ verdict.refused k p → extract H w x d a b n m ≡ refused k 2
+      extract-second k p h =
+          rw (extract-sized, h) (contradiction-second (verify H w x d a) k p (walk H x (shown w a) (shown w b)) first)
 
-        module _ (m-size : m ≡ 85) where
-          extract-sized : extract H w x d a b n m ≡ contradiction (verify H w x d a) (verify H w x d b) (walk H x (shown w a) (shown w b))
-          unfolding extract
-          extract-sized = rw (eq-eqb (length x) 20 x-size, eq-eqb (length d) 32 d-size, eq-eqb n 85 n-size, eq-eqb m 85 m-size)
+      pub extract-same : verify H w x d a ≡ verify H w x d b → extract H w x d a b n m ≡ refused no-contradiction 0
+      extract-same h =
+          rw (extract-sized, ← h) (contradiction-same (verify H w x d a) (walk H x (shown w a) (shown w b)) first)
 
-          pub extract-first : (k p : ℕ) → verify H w x d a ≡ verdict.refused k p → extract H w x d a b n m ≡ refused k 1
-          unfolding contradiction
-          extract-first k p h = rw (extract-sized, h)
-
-          module _ (first : Accepted (verify H w x d a)) where
-            pub extract-second : (k p : ℕ) → verify H w x d b ≡ verdict.refused k p → extract H w x d a b n m ≡ refused k 2
-            extract-second k p h =
-                rw (extract-sized, h) (contradiction-second (verify H w x d a) k p (walk H x (shown w a) (shown w b)) first)
-
-            pub extract-same : verify H w x d a ≡ verify H w x d b → extract H w x d a b n m ≡ refused no-contradiction 0
-            extract-same h =
-                rw (extract-sized, ← h) (contradiction-same (verify H w x d a) (walk H x (shown w a) (shown w b)) first)
-
-            pub extract-found : Accepted (verify H w x d b) → (verify H w x d a ≡ verify H w x d b → ⊥)
-                → (f : Found) → walk H x (shown w a) (shown w b) ≡ some f → extract H w x d a b n m ≡ extracted f
-            extract-found second differ f h =
-                rw (extract-sized, h) (contradiction-found (verify H w x d a) (verify H w x d b) f first second differ)
+      pub extract-found : Accepted (verify H w x d b) → (verify H w x d a ≡ verify H w x d b → ⊥)
+          → (f : Found) → walk H x (shown w a) (shown w b) ≡ some f → extract H w x d a b n m ≡ extracted f
+      extract-found second differ f h =
+          rw (extract-sized, h) (contradiction-found (verify H w x d a) (verify H w x d b) f first second differ)

@@ -1,11 +1,12 @@
 -- The extractor (01, "Extractor"), over any function H from records to labels and entries of w octets.
-use mathlib.Core.Bool.{cond, _&&_}
+use mathlib.Core.Bool.{Bool, cond, _&&_}
 use mathlib.Core.Option.{Option, none, some}
 use Prim.Native.Nat.{ℕ}
 use lib.Dec.{eqb}
 use lib.ListN.{length}
 use Rattle.answer.specs.Refusals.{size, no-contradiction}
 use Rattle.octets.specs.Order.{Octets}
+use Rattle.attester.specs.Record.{record-size}
 use Rattle.attester.specs.Verdict.{Judgement, present, absent}
 use Rattle.attester.specs.Verdict as verdict
 use Rattle.attester.specs.Form.{shown}
@@ -33,9 +34,13 @@ contradiction absent absent f = refused no-contradiction 0
 contradiction present absent f = shows f
 contradiction absent present f = shows f
 
--- 01: "x, d or a buffer not of its size, the buffers exactly 85 octets (1)", then the two verdicts; the buffers have n and m octets
+-- 01: "x, d or a buffer not of its size, the buffers exactly 85 octets (1)": whether the four lengths are right
+unfoldable pub sized : ℕ → ℕ → ℕ → ℕ → ℕ → Bool
+sized w x d n m = eqb x 20 && (eqb d 32 && (eqb n (record-size w) && eqb m (record-size w)))
+
+-- 01: the sizes first, then the two verdicts; the buffers have n and m octets
 unfoldable pub extract : (Octets → Octets) → ℕ → Octets → Octets → Octets → Octets → ℕ → ℕ → Extraction
 extract H w x d a b n m =
-    cond (eqb (length x) 20 && (eqb (length d) 32 && (eqb n 85 && eqb m 85)))
+    cond (sized w (length x) (length d) n m)
     (contradiction (verify H w x d a) (verify H w x d b) (walk H x (shown w a) (shown w b)))
     (refused size 0)

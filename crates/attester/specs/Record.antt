@@ -32,3 +32,7 @@ child-octets (some l) = l
 -- 01: octet 0, the left child's label, the key (an entry, where it is more than its key), the right child's label
 unfoldable pub node-record : Child → Octets → Child → Octets
 node-record l e r = flag l r ∷ (child-octets l ++ (e ++ child-octets r))
+
+-- 01: "A node record is 85 octets", of an entry that has 20
+abbrev pub record-size : ℕ → ℕ
+record-size w = 65 + w

@@ -1,0 +1,4 @@
+mod ToldLaws
+mod SizedLaws
+mod PassedLaws
+mod ExtractedLaws

@@ -1,0 +1,78 @@
+// The extractor: from two attestations whose verdicts contradict each other, two different node records with the same hash.
+mod walk;
+
+ghost use mathlib.Core.Path.{_≡_};
+ghost use Rattle.attester.specs.Extract as extractor;
+ghost use Rattle.tree.specs.Edition.{width};
+ghost use Rattle.extractor.specs.Told as specs;
+ghost use Rattle.extractor.specs.Extract.{Extracted};
+use answer::Answer;
+use answer::Verdict;
+
+// 1 for Present, 0 for Absent; or the refusal's number, with which attestation it was as its place.
+fn told(which: u32, v: Verdict) -> Answer
+    ensures { λ r. ⌜ r ≡ specs.told which v ⌝ }
+{
+    let Verdict::Refused { number, place: _ } = v else {
+        return Answer::Done(answer::pack_verdict(v) as u32);
+    };
+    Answer::Refused {
+        number,
+        place: which,
+    }
+}
+
+// Whether the key, the digest and the two buffers have the sizes that they must have.
+fn sized(key: usize, digest: usize, out1: usize, out2: usize) -> bool
+    ensures { λ r. ⌜ r ≡ extractor.sized width key digest out1 out2 ⌝ }
+{
+    if key != 20 {
+        return false;
+    }
+    if digest != 32 {
+        return false;
+    }
+    if out1 != 85 {
+        return false;
+    }
+    out2 == 85
+}
+
+// Writes the two node records, the first attestation's to out1 and the second's to out2, and answers the number of levels
+// passed; or refuses, and both stay as they were: key not 20 octets, digest not 32, or a buffer not 85 (1), the first
+// attestation's refusal (place 1), the second's (place 2), the same verdict on both (11).
+pub fn extract(
+    key: &[u8],
+    digest: &[u8],
+    first: &[u8],
+    second: &[u8],
+    out1: &mut [u8],
+    out2: &mut [u8],
+) -> Answer
+    ensures { λ r. ⌜ Extracted (now (key .entry)) (now (digest .entry)) (now (first .entry)) (now (second .entry)) (now (out1 .entry)) (now (out2 .entry)) r (now (out1 .exit)) (now (out2 .exit)) ⌝ }
+{
+    if !sized(key.len(), digest.len(), out1.len(), out2.len()) {
+        return Answer::Refused {
+            number: answer::SIZE,
+            place: 0,
+        };
+    }
+    let a = told(1, attestation::verify(key, digest, first));
+    let Answer::Done(p) = a else {
+        return a;
+    };
+    let b = told(2, attestation::verify(key, digest, second));
+    let Answer::Done(q) = b else {
+        return b;
+    };
+    if p == q {
+        return Answer::Refused {
+            number: answer::NO_CONTRADICTION,
+            place: 0,
+        };
+    }
+    let i = walk::passed(first, second, key);
+    octets::put(out1, 0, &attestation::judge::record(first, key, i));
+    octets::put(out2, 0, &attestation::judge::record(second, key, i));
+    Answer::Done(i as u32)
+}
