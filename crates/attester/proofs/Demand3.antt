@@ -4,14 +4,15 @@ use mathlib.Core.Path.{_≡_, sym, ap, _∙_}
 use Prim.Native.Nat.{ℕ}
 use lib.ListN.{length}
 use Rattle.octets.specs.Order.{Octets}
-use Rattle.attester.specs.Path.{Path}
+use Rattle.attester.specs.Record.{record-size}
+use Rattle.attester.specs.Path.{Path, down}
 use Rattle.attester.specs.Verdict.{Accepted, root-record, judge}
 use Rattle.attester.specs.Form.{shown}
 use Rattle.attester.specs.Verify.{verify}
-use Rattle.attester.specs.Demand3.{Demand-3, Verdicts-tell-paths}
+use Rattle.attester.specs.Demand3.{Rebuilt, Demand-3, Verdicts-tell-paths}
 use Rattle.attester.proofs.VerdictLaws.{judge-passed}
 use Rattle.attester.proofs.VerifyLaws.{verify-accepted}
-use Rattle.attester.proofs.RootLaws.{Clean}
+use Rattle.attester.proofs.RootLaws.{Clean, sized-down, root-length}
 use Rattle.attester.proofs.WalkLaws.{walked}
 
 -- what is known of the path that accepted octets show
@@ -41,3 +42,9 @@ demand-3 H H-length w x d a b g h differ =
 pub verdicts-tell-paths : (H : Octets → Octets) (w : ℕ) → Verdicts-tell-paths H w
 verdicts-tell-paths H w x d a b g h differ same =
     differ (accepted-shows H w x d a g .answer ∙ (ap (judge H x d) same ∙ sym (accepted-shows H w x d b h .answer)))
+
+-- a record that was rebuilt has a record's length
+pub rebuilt-length : (H : Octets → Octets) → ((m : Octets) → length (H m) ≡ 32) → (w : ℕ) (x d a : Octets) → Accepted (verify H w x d a)
+    → {i : ℕ} {r : Octets} → Rebuilt H x (shown w a) i r → length r ≡ record-size w
+rebuilt-length H H-length w x d a h {i} {r} b =
+    rw (b .is) (root-length H H-length w x (down i (shown w a)) (sized-down w i (shown w a) (accepted-shows H w x d a h .clean .sized)))

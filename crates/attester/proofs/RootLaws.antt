@@ -3,14 +3,14 @@
 use mathlib.Core.Path.{_≡_, refl, sym, ap, _∙_}
 use mathlib.Core.Bool.{true, false}
 use mathlib.Core.Option.{none, some}
-use Prim.Native.Nat.{ℕ, Ordering, Ordering·lt, Ordering·eq, Ordering·gt}
+use Prim.Native.Nat.{ℕ, zero, suc, Ordering, Ordering·lt, Ordering·eq, Ordering·gt}
 use native.Mathlib.Omega.{arith}
 use lib.ListN.{length}
 use Rattle.octets.specs.Order.{Octets}
-use Rattle.attester.specs.Record.{Child, Labelled, node-record}
-use Rattle.attester.specs.Path.{Path, foot, step, foot-entry, foot-left, foot-right, Sized}
+use Rattle.attester.specs.Record.{Child, Labelled, node-record, record-size}
+use Rattle.attester.specs.Path.{Path, foot, step, foot-entry, foot-left, foot-right, Sized, down}
 use Rattle.attester.specs.Verdict.{side, child-there, hidden, fault, join, root-record}
-use Rattle.attester.proofs.RecordLaws.{record-injective}
+use Rattle.attester.proofs.RecordLaws.{record-length, record-injective}
 use Rattle.attester.proofs.VerdictLaws.{side-same-eq, fault-below}
 
 -- The two children that a joined record has
@@ -112,3 +112,26 @@ module _ (H : Octets → Octets) (w : ℕ) (x : Octets) where
         let one : u ≡ o = ap (side x) (sym (a .entry)) in
         let b = join-injective o s t l m (a .left ∙ ap (λ v. join-left v t m) one) (a .right ∙ ap (λ v. join-right v t m) one) in
         record { entry = a .entry; sibling = b .0; label = b .1 }
+
+-- Sizes
+
+join-labelled-right : (o : Ordering) (s : Child) (l : Octets) → Labelled s → length l ≡ 32 → Labelled (join-right o s l)
+join-labelled-right Ordering·lt s l g h = g
+join-labelled-right Ordering·eq s l g h = g
+join-labelled-right Ordering·gt s l g h = h
+
+pub sized-down : (w i : ℕ) (p : Path) → Sized w p → Sized w (down i p)
+unfolding down
+sized-down w zero p z = z
+sized-down w (suc i) (foot e l r) z = z
+sized-down w (suc i) (step e s p) z = sized-down w i p (z .2)
+
+pub root-length : (H : Octets → Octets) → ((m : Octets) → length (H m) ≡ 32) → (w : ℕ) (x : Octets) (p : Path) → Sized w p
+    → length (root-record H x p) ≡ record-size w
+unfolding root-record
+root-length H H-length w x (foot e l r) z = omega (arith, record-length w l e r (z .1) (z .0) (z .2))
+root-length H H-length w x (step e s p) z =
+    let l = H (root-record H x p) in
+    let o = side x e in
+    rw (join-parts o e s l)
+    (omega (arith, record-length w (join-left o s l) e (join-right o s l) (join-labelled o s l (z .1) (H-length (root-record H x p))) (z .0) (join-labelled-right o s l (z .1) (H-length (root-record H x p)))))

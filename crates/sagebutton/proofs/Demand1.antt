@@ -97,6 +97,7 @@ demand-1 = record {
   read-list-untouched = λ text out m p out′ h. h .left;
   digest-untouched = λ list out m p out′ h. h .left;
   attest-untouched = λ x list out m p out′ h. h .left;
+  extract-untouched = λ x d a b out₁ out₂ m p out₁′ out₂′ h. (h .first-left, h .second-left);
   written-is-the-list = written-is-the-list;
   nothing-skipped = nothing-skipped;
   every-listing-accepted = every-listing-accepted;

@@ -1,5 +1,5 @@
 -- A promise that gives the answer and the buffer by definitions of the inputs is met by those alone.
-use mathlib.Core.Path.{refl, ap, _∙_}
+use mathlib.Core.Path.{_≡_, refl, ap, _∙_}
 use Prim.Native.Nat.{ℕ}
 use native.Mathlib.Omega.{arith}
 use lib.ListN.{length}
@@ -16,8 +16,10 @@ use Rattle.tree.specs.Edition.{hash, width, most}
 use Rattle.attester.specs.Verify.{verify}
 use Rattle.attestation.specs.Attest.{Attested, attest-answer, attest-octets}
 use Rattle.attestation.specs.Verify.{Verified, verdict-of}
+use Rattle.attester.specs.Extract.{extract}
+use Rattle.extractor.specs.Extract.{Extracted, extraction-answer, first-record, second-record}
 use Rattle.sagebutton.specs.Packed.{Packing, Verdict-packing}
-use Rattle.sagebutton.specs.OneOutcome.{One-outcome, Numbered, Lends-nothing, Every-input-has-one-outcome}
+use Rattle.sagebutton.specs.OneOutcome.{One-outcome, Numbered, Lends-nothing, Lends-two, Every-input-has-one-outcome}
 
 hash-has-one-outcome : (msg out : Octets) → One-outcome (Hashed msg out)
 hash-has-one-outcome msg out = record {
@@ -59,6 +61,19 @@ verify-has-one-outcome x d a = record {
   only = λ v nothing m. (m .answered, refl);
 }
 
+extract-has-one-outcome : (x d a b out₁ out₂ : Octets) → One-outcome (Lends-two (Extracted x d a b out₁ out₂))
+extract-has-one-outcome x d a b out₁ out₂ =
+    let e = extract hash width x d a b (length out₁) (length out₂) in
+    record {
+      answer = extraction-answer e;
+      buffer = (written (extraction-answer e) (first-record e) out₁, written (extraction-answer e) (second-record e) out₂);
+      permitted = record { answered = refl; first-left = refl; second-left = refl };
+      only = λ r buffers m.
+          let first : buffers .0 ≡ written (extraction-answer e) (first-record e) out₁ = rw (m .answered) at (m .first-left) in
+          let second : buffers .1 ≡ written (extraction-answer e) (second-record e) out₂ = rw (m .answered) at (m .second-left) in
+          (m .answered, λ i. (first i, second i));
+    }
+
 -- whatever promise has one outcome, its export has
 exported : {A B : Type 0} (pack : A → ℕ) (Meets : A → B → Type 0) → One-outcome Meets → One-outcome (Numbered pack Meets)
 exported pack Meets o = record {
@@ -75,11 +90,13 @@ every-input-has-one-outcome = record {
   digest = digest-has-one-outcome;
   attest = attest-has-one-outcome;
   verify = verify-has-one-outcome;
+  extract = extract-has-one-outcome;
   exported-hash = λ msg out. exported packed (Hashed msg out) (hash-has-one-outcome msg out);
   exported-read-list = λ text out. exported packed (Read text out) (read-list-has-one-outcome text out);
   exported-digest = λ list out. exported packed (Digested list out) (digest-has-one-outcome list out);
   exported-attest = λ x list out. exported packed (Attested x list out) (attest-has-one-outcome x list out);
   exported-verify = λ x d a. exported verdict-packed (Lends-nothing (Verified x d a)) (verify-has-one-outcome x d a);
+  exported-extract = λ x d a b out₁ out₂. exported packed (Lends-two (Extracted x d a b out₁ out₂)) (extract-has-one-outcome x d a b out₁ out₂);
 }
 
 pub packing : Packing

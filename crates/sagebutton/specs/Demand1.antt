@@ -13,6 +13,7 @@ use Rattle.codes.specs.Writing.{text-of, code-of, Nothing-skipped, Every-listin
 use Rattle.tree.specs.Digest.{Digested}
 use Rattle.tree.specs.Edition.{width}
 use Rattle.attestation.specs.Attest.{Attested}
+use Rattle.extractor.specs.Extract.{Extracted}
 
 -- a refused call leaves its buffer as it was
 abbrev pub Untouched : (Octets → Answer → Octets → Type 0) → Type 0
@@ -30,6 +31,8 @@ pub record Demand-1 : Type 0 where
   pub read-list-untouched : (text : Octets) → Untouched (Read text)
   pub digest-untouched : (keys : Octets) → Untouched (Digested keys)
   pub attest-untouched : (x keys : Octets) → Untouched (Attested x keys)
+  pub extract-untouched : (x d a b out₁ out₂ : Octets) (m p : ℕ) (out₁′ out₂′ : Octets) → Extracted x d a b out₁ out₂ (Refused m p) out₁′ out₂′
+      → (out₁′ ≡ out₁) × (out₂′ ≡ out₂)
   pub written-is-the-list : Written-is-the-list
   pub nothing-skipped : Nothing-skipped
   pub every-listing-accepted : Every-listing-accepted

@@ -6,6 +6,7 @@ ghost use Rattle.answer.specs.Answer.{packed, verdict-packed};
 ghost use Rattle.tree.specs.Digest.{Digested};
 ghost use Rattle.attestation.specs.Attest.{Attested};
 ghost use Rattle.attestation.specs.Verify.{Verified};
+ghost use Rattle.extractor.specs.Extract.{Extracted};
 ghost use Rattle.sagebutton.specs.Packed.{Packed};
 use answer::Answer;
 use answer::Verdict;
@@ -45,6 +46,21 @@ pub fn verify(key: &[u8], digest: &[u8], att: &[u8]) -> Verdict
     attestation::verify(key, digest, att)
 }
 
+// Two different node records with the same hash, one from each of two attestations that contradict each other, into 85 octets each;
+// answers the number of levels passed before them.
+pub fn extract(
+    key: &[u8],
+    digest: &[u8],
+    first: &[u8],
+    second: &[u8],
+    out1: &mut [u8],
+    out2: &mut [u8],
+) -> Answer
+    ensures { λ r. ⌜ Extracted (now (key .entry)) (now (digest .entry)) (now (first .entry)) (now (second .entry)) (now (out1 .entry)) (now (out2 .entry)) r (now (out1 .exit)) (now (out2 .exit)) ⌝ }
+{
+    extractor::extract(key, digest, first, second, out1, out2)
+}
+
 #[no_mangle]
 pub extern "C" fn sagebutton_hash(msg: &[u8], out: &mut [u8]) -> u64
     ensures { λ r. ⌜ Packed packed (λ a. Hashed (now (msg .entry)) (now (out .entry)) a (now (out .exit))) r ⌝ }
@@ -78,4 +94,18 @@ pub extern "C" fn sagebutton_verify(key: &[u8], digest: &[u8], att: &[u8]) -> u6
     ensures { λ r. ⌜ Packed verdict-packed (Verified (now (key .entry)) (now (digest .entry)) (now (att .entry))) r ⌝ }
 {
     answer::pack_verdict(verify(key, digest, att))
+}
+
+#[no_mangle]
+pub extern "C" fn sagebutton_extract(
+    key: &[u8],
+    digest: &[u8],
+    first: &[u8],
+    second: &[u8],
+    out1: &mut [u8],
+    out2: &mut [u8],
+) -> u64
+    ensures { λ r. ⌜ Packed packed (λ a. Extracted (now (key .entry)) (now (digest .entry)) (now (first .entry)) (now (second .entry)) (now (out1 .entry)) (now (out2 .entry)) a (now (out1 .exit)) (now (out2 .exit))) r ⌝ }
+{
+    answer::pack(extract(key, digest, first, second, out1, out2))
 }
