@@ -3,7 +3,7 @@
 use crate::answer::*;
 use crate::list::Key;
 use crate::sha256::Label;
-use crate::tree::{admitted, label_of, Node};
+use crate::tree::{admitted, label_of, LabelFunction, Node};
 use std::cmp::Ordering;
 
 pub const KEY_NOT_20: &str = "key not 20 octets";
@@ -21,12 +21,12 @@ pub struct Attestation {
 
 /// Attest answers the length; octets beyond it stay. `room` is the length of the lent
 /// buffer.
-pub fn attest(key: &[u8], list: &[u8], room: usize) -> Outcome {
+pub fn attest(hash: LabelFunction, key: &[u8], list: &[u8], room: usize) -> Outcome {
     let Ok(key) = Key::try_from(key) else {
         return Err(refuse(SIZE, 0, KEY_NOT_20));
     };
     let keys = admitted(list)?;
-    let root = Node::root(&keys).expect("an admitted list has a key");
+    let root = Node::root(hash, &keys).expect("an admitted list has a key");
     let written = Attestation::issued(&root, &key).octets();
     if written.len() > room {
         return Err(refuse(OUTPUT_TOO_SHORT, 0, EXCEEDS_BUFFER));

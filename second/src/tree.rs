@@ -10,14 +10,23 @@ pub const NOT_BY_20: &str = "key list not a multiple of 20 octets";
 pub const OVER_3000: &str = "over 3,000 keys";
 pub const NOT_STRICT: &str = "not strictly ascending";
 
+/// A node record.
+pub type Record = [u8; 85];
+
+/// From a node's record to its label.
+pub type LabelFunction = fn(&Record) -> Label;
+
+/// A node's label is the SHA-256 of its record.
+pub const SHA_256: LabelFunction = |record| sha256(record);
+
 /// An accepted digest writes its 32 octets and answers the number of keys. `room` is the
 /// length of the lent output.
-pub fn digest(octets: &[u8], room: usize) -> Outcome {
+pub fn digest(hash: LabelFunction, octets: &[u8], room: usize) -> Outcome {
     if room != 32 {
         return Err(refuse(SIZE, 0, OUTPUT_NOT_32));
     }
     let keys = admitted(octets)?;
-    let tree = Node::root(&keys).expect("an admitted list has a key");
+    let tree = Node::root(hash, &keys).expect("an admitted list has a key");
     Ok(Accepted { value: keys.len() as u32, written: tree.label.to_vec() })
 }
 
@@ -50,15 +59,15 @@ pub struct Node {
 impl Node {
     /// The root is the key at position floor(n/2), counted from 0. The keys before it form
     /// the left subtree by the same rule, those after it the right; no keys, no subtree.
-    pub fn root(keys: &[Key]) -> Option<Box<Node>> {
+    pub fn root(hash: LabelFunction, keys: &[Key]) -> Option<Box<Node>> {
         if keys.is_empty() {
             return None;
         }
         let position = keys.len() / 2;
-        let left = Node::root(&keys[..position]);
-        let right = Node::root(&keys[position + 1..]);
+        let left = Node::root(hash, &keys[..position]);
+        let right = Node::root(hash, &keys[position + 1..]);
         let key = keys[position];
-        let label = sha256(&record(label_of(&left), &key, label_of(&right)));
+        let label = hash(&record(label_of(&left), &key, label_of(&right)));
         Some(Box::new(Node { left, key, right, label }))
     }
 }
@@ -70,7 +79,7 @@ pub fn label_of(child: &Option<Box<Node>>) -> Option<Label> {
 /// Octet 0 is 1 if there is a left child plus 2 if there is a right one; 1 to 32 the left
 /// child's label, 33 to 52 the key, 53 to 84 the right child's label; an absent child's
 /// label is 32 zeros.
-pub fn record(left: Option<Label>, key: &Key, right: Option<Label>) -> [u8; 85] {
+pub fn record(left: Option<Label>, key: &Key, right: Option<Label>) -> Record {
     let mut record = [0; 85];
     record[0] = u8::from(left.is_some()) + 2 * u8::from(right.is_some());
     record[1..=32].copy_from_slice(&left.unwrap_or([0; 32]));

@@ -5,8 +5,8 @@ use crate::answer::*;
 use crate::attestation::Attestation;
 use crate::form;
 use crate::list::Key;
-use crate::sha256::{sha256, Label};
-use crate::tree::record;
+use crate::sha256::Label;
+use crate::tree::{record, LabelFunction, Record};
 
 pub const KEY_NOT_20: &str = "x not 20 octets";
 pub const DIGEST_NOT_32: &str = "d not 32 octets";
@@ -23,7 +23,7 @@ pub enum Verdict {
     Absent,
 }
 
-pub fn verify(x: &[u8], d: &[u8], octets: &[u8]) -> Result<Verdict, Refusal> {
+pub fn verify(hash: LabelFunction, x: &[u8], d: &[u8], octets: &[u8]) -> Result<Verdict, Refusal> {
     let Ok(x) = Key::try_from(x) else {
         return Err(refuse(SIZE, 0, KEY_NOT_20));
     };
@@ -33,7 +33,7 @@ pub fn verify(x: &[u8], d: &[u8], octets: &[u8]) -> Result<Verdict, Refusal> {
     let attestation = form::read(octets)?;
     step_3(&x, &attestation)?;
     step_4(&x, &attestation.keys)?;
-    if last_label(&x, &attestation) != d {
+    if last_label(hash, &x, &attestation) != d {
         return Err(refuse(DIGEST_DIFFERS, 0, DIFFERS));
     }
     if attestation.keys[0] == x {
@@ -68,14 +68,21 @@ fn step_4(x: &Key, keys: &[Key]) -> Result<(), Refusal> {
     Ok(())
 }
 
-/// Step 5: the foot's label; then for each key above it the label of its record, with the
-/// label so far on the left if x < kj and on the right if x > kj.
-pub fn last_label(x: &Key, attestation: &Attestation) -> Label {
+/// Step 5: the foot's record; then for each key above it its record, with the label so far
+/// on the left if x < kj and on the right if x > kj.
+pub fn records(hash: LabelFunction, x: &Key, attestation: &Attestation) -> Vec<Record> {
     let Attestation { keys, foot_left, foot_right, siblings } = attestation;
-    let mut label = sha256(&record(*foot_left, &keys[0], *foot_right));
+    let mut records = vec![record(*foot_left, &keys[0], *foot_right)];
     for (key, sibling) in keys[1..].iter().zip(siblings) {
-        let (left, right) = if x < key { (Some(label), *sibling) } else { (*sibling, Some(label)) };
-        label = sha256(&record(left, key, right));
+        let label = records.last().map(hash);
+        let (left, right) = if x < key { (label, *sibling) } else { (*sibling, label) };
+        records.push(record(left, key, right));
     }
-    label
+    records
+}
+
+/// The label of the last of these.
+pub fn last_label(hash: LabelFunction, x: &Key, attestation: &Attestation) -> Label {
+    let records = records(hash, x, attestation);
+    hash(records.last().expect("there is a foot"))
 }

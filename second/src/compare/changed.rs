@@ -10,7 +10,7 @@ use super::readings::{key, LIST_F};
 use second::attestation::Attestation;
 use second::list::Key;
 use second::sha256::Label;
-use second::tree::Node;
+use second::tree::{Node, SHA_256};
 
 /// An attestation that is accepted for x under d.
 struct Sound {
@@ -35,7 +35,7 @@ pub fn run(comparison: &mut Comparison) {
 }
 
 fn issued(keys: &[Key], x: Key) -> Sound {
-    let root = Node::root(keys).expect("there is a key");
+    let root = Node::root(SHA_256, keys).expect("there is a key");
     Sound { x, d: root.label, octets: Attestation::issued(&root, &x).octets() }
 }
 

@@ -1,6 +1,7 @@
 //! The C face of the library under comparison, and its packed result.
 
 use second::answer::{Accepted, Outcome};
+use second::tree::SHA_256;
 use second::verdict::Verdict;
 
 #[derive(Clone, Copy, Debug, PartialEq, Eq, PartialOrd, Ord)]
@@ -74,10 +75,10 @@ impl Function {
         match (self, inputs) {
             (Function::Hash, [message]) => second::sha256::hash(message, room),
             (Function::ReadList, [text]) => second::list::read_list(text, room),
-            (Function::Digest, [keys]) => second::tree::digest(keys, room),
-            (Function::Attest, [key, keys]) => second::attestation::attest(key, keys, room),
+            (Function::Digest, [keys]) => second::tree::digest(SHA_256, keys, room),
+            (Function::Attest, [key, keys]) => second::attestation::attest(SHA_256, key, keys, room),
             (Function::Verify, [key, digest, attestation]) => {
-                second::verdict::verify(key, digest, attestation).map(accepted)
+                second::verdict::verify(SHA_256, key, digest, attestation).map(accepted)
             }
             _ => unreachable!("{} doesn't take {} inputs", self.name(), inputs.len()),
         }

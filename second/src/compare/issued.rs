@@ -5,7 +5,7 @@ use super::comparison::Comparison;
 use super::key_lists::keys;
 use second::attestation::Attestation;
 use second::list::Key;
-use second::tree::Node;
+use second::tree::{Node, SHA_256};
 
 const LARGE: [usize; 12] = [63, 64, 65, 127, 128, 255, 256, 1_000, 2_047, 2_048, 2_999, 3_000];
 
@@ -24,7 +24,7 @@ pub fn run(comparison: &mut Comparison) {
 }
 
 fn judge(comparison: &mut Comparison, keys: &[Key], asked: &[Key]) {
-    let root = Node::root(keys).expect("there is a key");
+    let root = Node::root(SHA_256, keys).expect("there is a key");
     for x in asked {
         let octets = Attestation::issued(&root, x).octets();
         comparison.verify("issued", x, &root.label, &octets);
@@ -60,7 +60,7 @@ fn other_digests(comparison: &mut Comparison, root: &Node, x: &Key, octets: &[u8
 fn every_bit(comparison: &mut Comparison) {
     for how_many in [1, 5, 12, 3_000] {
         let keys = keys(&mut comparison.random, how_many);
-        let root = Node::root(&keys).expect("there is a key");
+        let root = Node::root(SHA_256, &keys).expect("there is a key");
         for key in [keys[0], keys[how_many / 2], comparison.random.pick(&keys)] {
             let octets = Attestation::issued(&root, &key).octets();
             for bit in 0..160 {

@@ -7,7 +7,7 @@ use super::key_lists::keys;
 use super::lent::Input;
 use second::attestation::Attestation;
 use second::list::Key;
-use second::tree::Node;
+use second::tree::{Node, SHA_256};
 
 const LARGE: [usize; 24] = [
     71, 100, 127, 128, 129, 191, 192, 255, 256, 257, 511, 512, 513, 1_023, 1_024, 1_025, 1_535, 1_536, 2_047,
@@ -44,7 +44,7 @@ pub fn longest(keys: &[Key]) -> Key {
 }
 
 fn first_with_most(keys: &[Key], measure: fn(&Attestation) -> usize) -> Key {
-    let root = Node::root(keys).expect("there is a key");
+    let root = Node::root(SHA_256, keys).expect("there is a key");
     let measured = |key: &&Key| measure(&Attestation::issued(&root, key));
     *keys.iter().rev().max_by_key(measured).expect("there is a key")
 }

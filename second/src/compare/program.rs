@@ -6,6 +6,7 @@ use super::readings::readings;
 use super::sheet::Sheet;
 use super::tally::PROGRAM;
 use second::answer::{Outcome, OUTPUT_TOO_SHORT};
+use second::tree::SHA_256;
 use std::io::{ErrorKind, Write};
 use std::path::PathBuf;
 use std::process::{ChildStdin, Command, Output, Stdio};
@@ -42,7 +43,7 @@ fn program() -> PathBuf {
 
 fn digest_of_text(text: &[u8]) -> Outcome {
     let list = second::list::read_list(text, 60_000)?;
-    second::tree::digest(&list.written, 32)
+    second::tree::digest(SHA_256, &list.written, 32)
 }
 
 /// `digest`, the count, and 64 lower-case hex digits; or `refused`, the number and the
