@@ -1,7 +1,7 @@
 //! What every function answers: a value and the octets it writes, or a numbered refusal.
 
 /// An accepted call answers a value and writes these octets at the front of the lent
-/// buffer; the rest of the buffer stays.
+/// buffer; the rest of the buffer stays. Of two lent buffers they fill one, then the other.
 #[derive(Clone, Debug, PartialEq, Eq)]
 pub struct Accepted {
     pub value: u32,
@@ -30,6 +30,7 @@ pub const ATTESTATION_FORM: u16 = 7;
 pub const CHILD_AT_THE_FOOT: u16 = 8;
 pub const ABOVE_THE_FOOT: u16 = 9;
 pub const DIGEST_DIFFERS: u16 = 10;
+pub const NO_CONTRADICTION: u16 = 11;
 pub const FIRST_OR_SECOND_LINE: u16 = 12;
 pub const NOT_A_CODE: u16 = 13;
 pub const LINES_AND_COUNT: u16 = 14;

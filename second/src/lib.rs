@@ -3,6 +3,7 @@
 
 pub mod answer;
 pub mod attestation;
+pub mod extractor;
 pub mod form;
 pub mod list;
 pub mod sha256;
