@@ -53,7 +53,7 @@ pub fn run(comparison: &mut Comparison) {
         ("6 last", key("3-4"), &f, 0, Refused(6, 0)),
     ];
     for (name, x, list, room, expected) in examples {
-        comparison.example(name, Function::Attest, &[&x, list], room, &expected);
+        comparison.example(name, Function::Attest, &[&x, list], &[room], &expected);
     }
 }
 

@@ -82,7 +82,7 @@ fn every_octet(comparison: &mut Comparison, sound: &Sound, masks: &[u8]) {
 fn every_cut(comparison: &mut Comparison, sound: &Sound) {
     for len in 0..=sound.octets.len() {
         let inputs = [Input::whole(&sound.x), Input::whole(&sound.d), Input::cut(&sound.octets, len)];
-        comparison.call("each cut", Function::Verify, &inputs, 0);
+        comparison.call("each cut", Function::Verify, &inputs, &[]);
         comparison.verify("each cut, other octets behind", &sound.x, &sound.d, &sound.octets[..len]);
     }
 }

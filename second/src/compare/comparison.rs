@@ -9,7 +9,8 @@ use second::answer::{refuse, Accepted, Outcome};
 
 const SHOWN_IN_FULL: u64 = 5;
 
-/// An answer written down by hand: the value and what is written, or number and place.
+/// An answer written down by hand, or known from how a case was made: the value and what is
+/// written, or number and place.
 #[derive(Clone, Debug)]
 pub enum Expected {
     Accepted(u32, Vec<u8>),
@@ -23,11 +24,34 @@ impl Expected {
             Expected::Refused(number, place) => Err(refuse(*number, *place as usize, "by hand")),
         }
     }
+
+    /// Whether an outcome is this one, whichever rule refused.
+    pub fn is(&self, outcome: &Outcome) -> bool {
+        let expected = self.outcome();
+        packed(outcome) == packed(&expected) && written(outcome) == written(&expected)
+    }
 }
 
 /// A refusal writes nothing.
 fn written(outcome: &Outcome) -> &[u8] {
     outcome.as_ref().map_or(&[], |accepted| &accepted.written)
+}
+
+/// The outputs after these octets are written, which fill one after the other.
+fn filled(outputs: &[Lent], mut written: &[u8]) -> Vec<Lent> {
+    let fill = |output: &Lent| {
+        let (here, rest) = written.split_at(written.len().min(output.inside().len()));
+        written = rest;
+        output.with(here)
+    };
+    outputs.iter().map(fill).collect()
+}
+
+/// Says of each that is not what it ought to be where it differs.
+fn differences(which: &str, lent: &[Lent], expected: &[Lent]) -> Vec<String> {
+    let pairs = lent.iter().zip(expected).enumerate();
+    let found = pairs.filter_map(|(at, (is, ought))| Some((at + 1, is.difference(ought)?)));
+    found.map(|(number, fault)| format!("{which} {number}: {fault}")).collect()
 }
 
 pub struct Comparison {
@@ -45,21 +69,27 @@ impl Comparison {
         Comparison { random, tally, cases: 0, differences: 0, longest_taken: 0 }
     }
 
-    /// Ours against the reference, for a function of one input.
+    /// Ours against the reference, for a function of one input and one output.
     pub fn case(&mut self, name: &str, function: Function, input: &[u8], room: usize) {
-        self.call(name, function, &[Input::whole(input)], room);
+        self.call(name, function, &[Input::whole(input)], &[room]);
     }
 
     /// Ours against the reference; answers the reference's value if that accepts.
-    pub fn call(&mut self, name: &str, function: Function, inputs: &[Input], room: usize) -> Option<u32> {
-        let outcome = self.reference(function, inputs, room);
-        self.ours(name, function, inputs, room, &outcome);
+    pub fn call(&mut self, name: &str, function: Function, inputs: &[Input], rooms: &[usize]) -> Option<u32> {
+        let outcome = self.reference(function, inputs, rooms);
+        self.ours(name, function, inputs, rooms, &outcome);
         outcome.ok().map(|accepted| accepted.value)
     }
 
     /// Ours against the reference's verdict.
     pub fn verify(&mut self, name: &str, x: &[u8], d: &[u8], attestation: &[u8]) {
-        self.call(name, Function::Verify, &[x, d, attestation].map(Input::whole), 0);
+        self.call(name, Function::Verify, &[x, d, attestation].map(Input::whole), &[]);
+    }
+
+    /// Ours against the reference's extractor, with two buffers of 85 octets.
+    pub fn extract(&mut self, name: &str, x: &[u8], d: &[u8], [first, second]: [&[u8]; 2]) {
+        let inputs = [x, d, first, second].map(Input::whole);
+        self.call(name, Function::Extract, &inputs, &[85, 85]);
     }
 
     /// Ours and the reference against an answer written down by hand.
@@ -68,23 +98,22 @@ impl Comparison {
         name: &str,
         function: Function,
         inputs: &[&[u8]],
-        room: usize,
+        rooms: &[usize],
         expected: &Expected,
     ) {
         let lent: Vec<Input> = inputs.iter().map(|input| Input::whole(input)).collect();
-        let outcome = self.reference(function, &lent, room);
-        let by_hand = expected.outcome();
-        if packed(&outcome) != packed(&by_hand) || written(&outcome) != written(&by_hand) {
+        let outcome = self.reference(function, &lent, rooms);
+        if !expected.is(&outcome) {
             let fault = format!("answers {outcome:?}, expected {expected:?}");
             self.differs(name, "the reference", inputs, &fault);
         }
-        self.ours(name, function, &lent, room, &by_hand);
+        self.ours(name, function, &lent, rooms, &expected.outcome());
     }
 
     /// The reference's outcome, counted.
-    fn reference(&mut self, function: Function, inputs: &[Input], room: usize) -> Outcome {
+    fn reference(&mut self, function: Function, inputs: &[Input], rooms: &[usize]) -> Outcome {
         let inputs: Vec<&[u8]> = inputs.iter().map(|input| input.octets).collect();
-        let outcome = function.reference(&inputs, room);
+        let outcome = function.reference(&inputs, rooms);
         self.tally.count(function.name(), &outcome);
         if let (Function::Verify, Ok(_)) = (function, &outcome) {
             self.longest_taken = self.longest_taken.max(inputs[2].len());
@@ -92,24 +121,30 @@ impl Comparison {
         outcome
     }
 
-    fn ours(&mut self, name: &str, function: Function, inputs: &[Input], room: usize, expected: &Outcome) {
+    fn ours(
+        &mut self,
+        name: &str,
+        function: Function,
+        inputs: &[Input],
+        rooms: &[usize],
+        expected: &Outcome,
+    ) {
         self.cases += 1;
         let lent: Vec<Lent> = inputs.iter().map(|input| Lent::input(&mut self.random, input)).collect();
-        let lent_after: Vec<Lent> = lent.iter().map(|input| input.with(&[])).collect();
+        let lent_after = filled(&lent, &[]);
         let lent_inside: Vec<&[u8]> = lent.iter().map(Lent::inside).collect();
-        let mut output = Lent::output(&mut self.random, room);
-        let output_after = output.with(written(expected));
-        let answer = function.ours(&lent_inside, output.inside_mut());
+        let mut outputs: Vec<Lent> = rooms.iter().map(|room| Lent::output(&mut self.random, *room)).collect();
+        let outputs_after = filled(&outputs, written(expected));
+        let mut outputs_inside: Vec<&mut [u8]> = outputs.iter_mut().map(Lent::inside_mut).collect();
+        let answer = function.ours(&lent_inside, &mut outputs_inside);
         let mut faults = Vec::new();
         if answer != packed(expected) {
             faults.push(format!("answers {}, expected {}", told(answer), told(packed(expected))));
         }
-        faults.extend(output.difference(&output_after).map(|fault| format!("output: {fault}")));
-        for (input, after) in lent.iter().zip(&lent_after) {
-            faults.extend(input.difference(after).map(|fault| format!("input: {fault}")));
-        }
+        faults.extend(differences("output", &outputs, &outputs_after));
+        faults.extend(differences("input", &lent, &lent_after));
         if !faults.is_empty() {
-            let call = format!("{} with an output of {room} octets", function.name());
+            let call = format!("{} with outputs of {rooms:?} octets", function.name());
             let inputs: Vec<&[u8]> = inputs.iter().map(|input| input.octets).collect();
             self.differs(name, &call, &inputs, &faults.join("; "));
         }

@@ -5,18 +5,19 @@
 use super::comparison::{octets_of_hex, Comparison, Expected};
 use super::face::Function;
 use super::readings::{key, keys, readings, Reading, LIST_F};
-use super::{attestations, verdicts};
+use super::{attestations, extractions, verdicts};
 use Expected::{Accepted, Refused};
 
 pub fn run(comparison: &mut Comparison) {
     for reading in readings() {
         let Reading { name, text, room, expected } = reading;
-        comparison.example(name, Function::ReadList, &[&text], room, &expected);
+        comparison.example(name, Function::ReadList, &[&text], &[room], &expected);
     }
     key_lists(comparison);
     messages(comparison);
     attestations::run(comparison);
     verdicts::run(comparison);
+    extractions::run(comparison);
 }
 
 fn key_lists(comparison: &mut Comparison) {
@@ -53,7 +54,7 @@ fn key_lists(comparison: &mut Comparison) {
         ("output of 0, no keys", vec![], 0, Refused(1, 0)),
     ];
     for (name, octets, room, expected) in examples {
-        comparison.example(name, Function::Digest, &[&octets], room, &expected);
+        comparison.example(name, Function::Digest, &[&octets], &[room], &expected);
     }
 }
 
@@ -69,7 +70,7 @@ fn messages(comparison: &mut Comparison) {
         ("nothing, output of 0", vec![], 0, Refused(1, 0)),
     ];
     for (name, message, room, expected) in examples {
-        comparison.example(name, Function::Hash, &[&message], room, &expected);
+        comparison.example(name, Function::Hash, &[&message], &[room], &expected);
     }
 }
 

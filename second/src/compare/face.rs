@@ -1,6 +1,7 @@
 //! The C face of the library under comparison, and its packed result.
 
 use second::answer::{Accepted, Outcome};
+use second::extractor::Extracted;
 use second::tree::SHA_256;
 use second::verdict::Verdict;
 
@@ -11,6 +12,7 @@ pub enum Function {
     Digest,
     Attest,
     Verify,
+    Extract,
 }
 
 #[link(name = "sagebutton", kind = "static")]
@@ -34,6 +36,20 @@ extern "C" {
         att: *const u8,
         att_len: usize,
     ) -> u64;
+    fn sagebutton_extract(
+        key: *const u8,
+        key_len: usize,
+        digest: *const u8,
+        digest_len: usize,
+        first: *const u8,
+        first_len: usize,
+        second: *const u8,
+        second_len: usize,
+        out1: *mut u8,
+        out1_len: usize,
+        out2: *mut u8,
+        out2_len: usize,
+    ) -> u64;
 }
 
 impl Function {
@@ -44,45 +60,62 @@ impl Function {
             Function::Digest => "digest",
             Function::Attest => "attest",
             Function::Verify => "verify",
+            Function::Extract => "extract",
         }
     }
 
-    /// Our library's packed answer; it writes into the output itself. Inputs are in the
-    /// header's order.
-    pub fn ours(self, inputs: &[&[u8]], output: &mut [u8]) -> u64 {
-        let (out, room) = (output.as_mut_ptr(), output.len());
+    /// Our library's packed answer; it writes into the outputs itself. Inputs and outputs
+    /// are in the header's order.
+    pub fn ours(self, inputs: &[&[u8]], outputs: &mut [&mut [u8]]) -> u64 {
         let lent: Vec<(*const u8, usize)> =
             inputs.iter().map(|input| (input.as_ptr(), input.len())).collect();
-        // Every pointer is valid for its length and overlaps no other: they are slices.
+        let lent_out: Vec<(*mut u8, usize)> =
+            outputs.iter_mut().map(|output| (output.as_mut_ptr(), output.len())).collect();
+        // Every pointer is valid for its length and no output overlaps another: they are slices.
         unsafe {
-            match (self, &lent[..]) {
-                (Function::Hash, [(msg, len)]) => sagebutton_hash(*msg, *len, out, room),
-                (Function::ReadList, [(text, len)]) => sagebutton_read_list(*text, *len, out, room),
-                (Function::Digest, [(keys, len)]) => sagebutton_digest(*keys, *len, out, room),
-                (Function::Attest, [(key, key_len), (keys, len)]) => {
-                    sagebutton_attest(*key, *key_len, *keys, *len, out, room)
+            match (self, &lent[..], &lent_out[..]) {
+                (Function::Hash, &[(m, m_len)], &[(out, room)]) => sagebutton_hash(m, m_len, out, room),
+                (Function::ReadList, &[(t, t_len)], &[(out, room)]) => {
+                    sagebutton_read_list(t, t_len, out, room)
                 }
-                (Function::Verify, [(key, key_len), (digest, digest_len), (att, len)]) => {
-                    sagebutton_verify(*key, *key_len, *digest, *digest_len, *att, *len)
+                (Function::Digest, &[(l, l_len)], &[(out, room)]) => sagebutton_digest(l, l_len, out, room),
+                (Function::Attest, &[(x, x_len), (l, l_len)], &[(out, room)]) => {
+                    sagebutton_attest(x, x_len, l, l_len, out, room)
                 }
-                _ => unreachable!("{} doesn't take {} inputs", self.name(), inputs.len()),
+                (Function::Verify, &[(x, x_len), (d, d_len), (a, a_len)], &[]) => {
+                    sagebutton_verify(x, x_len, d, d_len, a, a_len)
+                }
+                (Function::Extract, &[(x, x_len), (d, d_len), ref shown @ ..], &[(o, o_len), (p, p_len)]) => {
+                    let [(a, a_len), (b, b_len)] = first_and_second(shown);
+                    sagebutton_extract(x, x_len, d, d_len, a, a_len, b, b_len, o, o_len, p, p_len)
+                }
+                _ => unreachable!("{} doesn't take so many", self.name()),
             }
         }
     }
 
-    /// The reference's answer for a lent output of `room` octets.
-    pub fn reference(self, inputs: &[&[u8]], room: usize) -> Outcome {
-        match (self, inputs) {
-            (Function::Hash, [message]) => second::sha256::hash(message, room),
-            (Function::ReadList, [text]) => second::list::read_list(text, room),
-            (Function::Digest, [keys]) => second::tree::digest(SHA_256, keys, room),
-            (Function::Attest, [key, keys]) => second::attestation::attest(SHA_256, key, keys, room),
-            (Function::Verify, [key, digest, attestation]) => {
+    /// The reference's answer for lent outputs of so many octets.
+    pub fn reference(self, inputs: &[&[u8]], rooms: &[usize]) -> Outcome {
+        match (self, inputs, rooms) {
+            (Function::Hash, [message], [room]) => second::sha256::hash(message, *room),
+            (Function::ReadList, [text], [room]) => second::list::read_list(text, *room),
+            (Function::Digest, [keys], [room]) => second::tree::digest(SHA_256, keys, *room),
+            (Function::Attest, [key, keys], [room]) => second::attestation::attest(SHA_256, key, keys, *room),
+            (Function::Verify, [key, digest, attestation], []) => {
                 second::verdict::verify(SHA_256, key, digest, attestation).map(accepted)
             }
-            _ => unreachable!("{} doesn't take {} inputs", self.name(), inputs.len()),
+            (Function::Extract, [key, digest, shown @ ..], [one, other]) => {
+                let shown = first_and_second(shown);
+                second::extractor::extract(SHA_256, key, digest, shown, [*one, *other]).map(extracted)
+            }
+            _ => unreachable!("{} doesn't take so many", self.name()),
         }
     }
+}
+
+/// Of one attestation both: it is lent once and shown twice.
+fn first_and_second<T: Copy>(shown: &[T]) -> [T; 2] {
+    [shown[0], shown[shown.len() - 1]]
 }
 
 /// The header's numbers for a verdict; nothing is written.
@@ -92,6 +125,12 @@ fn accepted(verdict: Verdict) -> Accepted {
         Verdict::Absent => ABSENT,
     };
     Accepted { value, written: Vec::new() }
+}
+
+/// Answers the levels passed; the first record is written to the first output, the second
+/// to the second.
+pub fn extracted(extracted: Extracted) -> Accepted {
+    Accepted { value: extracted.passed, written: extracted.records.concat() }
 }
 
 pub const PRESENT: u32 = 1;

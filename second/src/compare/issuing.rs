@@ -57,7 +57,7 @@ fn issue_all(comparison: &mut Comparison, keys: &[Key], asked: &[Key]) {
         let listed = keys.binary_search(x).is_ok();
         let attestation = our_attestation(x, &list);
         let verdict = Expected::Accepted(if listed { PRESENT } else { ABSENT }, Vec::new());
-        comparison.example("issued and judged", Function::Verify, &[x, &digest, &attestation], 0, &verdict);
+        comparison.example("issued and judged", Function::Verify, &[x, &digest, &attestation], &[], &verdict);
         if !listed {
             same_as_foot(comparison, x, &list, &attestation);
         }
@@ -66,14 +66,14 @@ fn issue_all(comparison: &mut Comparison, keys: &[Key], asked: &[Key]) {
 
 fn our_digest(list: &[u8]) -> Vec<u8> {
     let mut digest = vec![0; 32];
-    Function::Digest.ours(&[list], &mut digest);
+    Function::Digest.ours(&[list], &mut [&mut digest]);
     digest
 }
 
 /// If it is refused, zeros, which no verdict accepts.
 fn our_attestation(x: &Key, list: &[u8]) -> Vec<u8> {
     let mut octets = vec![0; 586];
-    let answer = Function::Attest.ours(&[x, list], &mut octets);
+    let answer = Function::Attest.ours(&[x, list], &mut [&mut octets]);
     octets.truncate(answer as usize);
     octets
 }
@@ -82,7 +82,7 @@ fn our_attestation(x: &Key, list: &[u8]) -> Vec<u8> {
 fn same_as_foot(comparison: &mut Comparison, x: &Key, list: &[u8], attestation: &[u8]) {
     let expected = Expected::Accepted(attestation.len() as u32, attestation.to_vec());
     let foot = attestation.get(1..21).unwrap_or(x);
-    comparison.example("the foot's key", Function::Attest, &[foot, list], 586, &expected);
+    comparison.example("the foot's key", Function::Attest, &[foot, list], &[586], &expected);
 }
 
 /// Into buffers far longer, of exactly the length, one less, and any; answers the length.
@@ -105,7 +105,7 @@ fn issue(comparison: &mut Comparison, x: &Key, list: &[u8]) -> usize {
 /// Answers the length, 0 if refused.
 pub fn attest(comparison: &mut Comparison, name: &str, x: &[u8], list: &[u8], room: usize) -> usize {
     let inputs = [Input::whole(x), Input::whole(list)];
-    comparison.call(name, Function::Attest, &inputs, room).map_or(0, |len| len as usize)
+    comparison.call(name, Function::Attest, &inputs, &[room]).map_or(0, |len| len as usize)
 }
 
 /// Keys at even distances across long lists.

@@ -8,6 +8,8 @@ mod comparison;
 mod damage;
 mod draft;
 mod examples;
+mod extracting;
+mod extractions;
 mod face;
 mod forged;
 mod forgery;
@@ -22,6 +24,7 @@ mod places;
 mod program;
 mod random;
 mod readings;
+mod refused;
 mod sheet;
 mod tally;
 mod texts;
@@ -35,6 +38,9 @@ const GENERATED: u64 = 100_000;
 
 /// At least so many attestations are verified.
 const VERIFIED: u64 = 200_000;
+
+/// At least so many pairs of attestations are shown to extract.
+const EXTRACTED: u64 = 20_000;
 
 /// Document 01: the longest attestation that we issue, and the longest the verifier takes.
 const LONGEST_ISSUED: u32 = 586;
@@ -56,9 +62,11 @@ pub fn run(seed: u64) -> bool {
     let changed = section(&mut comparison, "changed attestations", changed::run);
     let forged = section(&mut comparison, "forged attestations", forged::run);
     let places = section(&mut comparison, "each place of an attestation", places::run);
+    let pairs = section(&mut comparison, "pairs of attestations", extracting::run);
     section(&mut comparison, "the program digest", program::run);
     at_least(&mut comparison, "generated texts and key lists", texts + key_lists, GENERATED);
     at_least(&mut comparison, "verifications", issued + changed + forged + places, VERIFIED);
+    at_least(&mut comparison, "pairs of attestations", pairs, EXTRACTED);
     judge_longest(&mut comparison);
     comparison.judge_tally();
     println!("{:.1} s", started.elapsed().as_secs_f64());

@@ -29,7 +29,7 @@ fn messages(comparison: &mut Comparison, name: &str, file: &str, how_many: usize
         let len = bits.parse::<usize>().expect("a length") / 8;
         let message = &octets_of_hex(message)[..len];
         let expected = Expected::Accepted(len as u32, octets_of_hex(digest));
-        comparison.example(&format!("{name}, {len} octets"), Function::Hash, &[message], 32, &expected);
+        comparison.example(&format!("{name}, {len} octets"), Function::Hash, &[message], &[32], &expected);
     }
 }
 
@@ -45,7 +45,7 @@ fn monte_carlo(comparison: &mut Comparison) {
         reference_seed = thousand(reference_seed, |message| second::sha256::sha256(message).to_vec());
         our_seed = thousand(our_seed, |message| {
             let mut label = vec![0; 32];
-            let answer = Function::Hash.ours(&[message], &mut label);
+            let answer = Function::Hash.ours(&[message], &mut [&mut label]);
             if answer == 96 {
                 label
             } else {

@@ -94,7 +94,7 @@ fn every_end(comparison: &mut Comparison) {
         for end in draft.ends() {
             for len in [end - 1, end] {
                 let inputs = [Input::whole(&draft.x), Input::whole(&digest), Input::cut(&octets, len)];
-                comparison.call("each end", Function::Verify, &inputs, 0);
+                comparison.call("each end", Function::Verify, &inputs, &[]);
             }
         }
     }
@@ -195,7 +195,7 @@ fn each_size(comparison: &mut Comparison, x: &Key, digest: &Label, octets: &[u8]
     for key_size in KEY_SIZES {
         for digest_size in DIGEST_SIZES {
             let inputs = [Input::cut(&x, key_size), Input::cut(&digest, digest_size), Input::whole(octets)];
-            comparison.call("each size of x and d", Function::Verify, &inputs, 0);
+            comparison.call("each size of x and d", Function::Verify, &inputs, &[]);
         }
     }
 }

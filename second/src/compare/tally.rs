@@ -3,7 +3,7 @@
 
 use super::face::PRESENT;
 use second::answer::*;
-use second::{attestation, form, list, sha256, tree, verdict};
+use second::{attestation, extractor, form, list, sha256, tree, verdict};
 use std::collections::{BTreeMap, BTreeSet};
 
 pub const PROGRAM: &str = "program";
@@ -88,7 +88,7 @@ const MANY: u64 = 100;
 const PROGRAM_NUMBERS: [u16; 8] =
     [0, SIZE, NO_KEYS, OVER_3000_KEYS, NOT_ASCENDING, FIRST_OR_SECOND_LINE, NOT_A_CODE, LINES_AND_COUNT];
 
-const RULES: [Rule; 57] = [
+const RULES: [Rule; 75] = [
     ("hash", 0, ACCEPTED),
     ("hash", SIZE, sha256::MESSAGE_TOO_LONG),
     ("hash", SIZE, sha256::OUTPUT_NOT_32),
@@ -146,4 +146,22 @@ const RULES: [Rule; 57] = [
     ("verify", ABOVE_THE_FOOT, verdict::NEIGHBOURS_EQUAL),
     ("verify", ABOVE_THE_FOOT, verdict::X_AND_NEIGHBOURS),
     ("verify", DIGEST_DIFFERS, verdict::DIFFERS),
+    ("extract", SIZE, verdict::KEY_NOT_20),
+    ("extract", SIZE, verdict::DIGEST_NOT_32),
+    ("extract", SIZE, extractor::FIRST_NOT_85),
+    ("extract", SIZE, extractor::SECOND_NOT_85),
+    ("extract", ATTESTATION_FORM, extractor::FIRST_REFUSED),
+    ("extract", ATTESTATION_FORM, extractor::BOTH_REFUSED),
+    ("extract", ATTESTATION_FORM, extractor::SECOND_REFUSED),
+    ("extract", CHILD_AT_THE_FOOT, extractor::FIRST_REFUSED),
+    ("extract", CHILD_AT_THE_FOOT, extractor::BOTH_REFUSED),
+    ("extract", CHILD_AT_THE_FOOT, extractor::SECOND_REFUSED),
+    ("extract", ABOVE_THE_FOOT, extractor::FIRST_REFUSED),
+    ("extract", ABOVE_THE_FOOT, extractor::BOTH_REFUSED),
+    ("extract", ABOVE_THE_FOOT, extractor::SECOND_REFUSED),
+    ("extract", DIGEST_DIFFERS, extractor::FIRST_REFUSED),
+    ("extract", DIGEST_DIFFERS, extractor::BOTH_REFUSED),
+    ("extract", DIGEST_DIFFERS, extractor::SECOND_REFUSED),
+    ("extract", NO_CONTRADICTION, extractor::BOTH_PRESENT),
+    ("extract", NO_CONTRADICTION, extractor::BOTH_ABSENT),
 ];

@@ -18,7 +18,7 @@ pub fn run(comparison: &mut Comparison) {
 }
 
 fn judge(comparison: &mut Comparison, name: &str, x: &[u8], d: &[u8], octets: &[u8], expected: Expected) {
-    comparison.example(name, Function::Verify, &[x, d, octets], 0, &expected);
+    comparison.example(name, Function::Verify, &[x, d, octets], &[], &expected);
 }
 
 fn present() -> Expected {
