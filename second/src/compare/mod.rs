@@ -5,6 +5,7 @@ mod attestations;
 mod changed;
 mod codes;
 mod comparison;
+mod contradictions;
 mod damage;
 mod draft;
 mod examples;
@@ -29,6 +30,7 @@ mod sheet;
 mod tally;
 mod texts;
 mod verdicts;
+mod walks;
 
 use comparison::Comparison;
 use std::time::Instant;
@@ -41,6 +43,9 @@ const VERIFIED: u64 = 200_000;
 
 /// At least so many pairs of attestations are shown to extract.
 const EXTRACTED: u64 = 20_000;
+
+/// At least so many extractions are from attestations that contradict each other.
+const CONTRADICTED: u64 = 1_000;
 
 /// Document 01: the longest attestation that we issue, and the longest the verifier takes.
 const LONGEST_ISSUED: u32 = 586;
@@ -63,10 +68,12 @@ pub fn run(seed: u64) -> bool {
     let forged = section(&mut comparison, "forged attestations", forged::run);
     let places = section(&mut comparison, "each place of an attestation", places::run);
     let pairs = section(&mut comparison, "pairs of attestations", extracting::run);
+    section(&mut comparison, "contradictions under cut labels", walks::run);
     section(&mut comparison, "the program digest", program::run);
     at_least(&mut comparison, "generated texts and key lists", texts + key_lists, GENERATED);
     at_least(&mut comparison, "verifications", issued + changed + forged + places, VERIFIED);
     at_least(&mut comparison, "pairs of attestations", pairs, EXTRACTED);
+    judge_contradictions(&mut comparison);
     judge_longest(&mut comparison);
     comparison.judge_tally();
     println!("{:.1} s", started.elapsed().as_secs_f64());
@@ -86,6 +93,15 @@ fn section(comparison: &mut Comparison, name: &str, run: fn(&mut Comparison)) ->
 fn at_least(comparison: &mut Comparison, name: &str, cases: u64, asked: u64) {
     if cases < asked {
         comparison.fail(&format!("only {cases} {name}"));
+    }
+}
+
+/// The extractor passed each number of levels that paths of 32 keys allow.
+fn judge_contradictions(comparison: &mut Comparison) {
+    let (contradicted, levels) = comparison.tally.accepted(tally::CUT_LABELS);
+    at_least(comparison, "contradictions", contradicted, CONTRADICTED);
+    if levels != 32 {
+        comparison.fail(&format!("{levels} numbers of levels passed, not 32"));
     }
 }
 

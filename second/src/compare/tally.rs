@@ -8,6 +8,9 @@ use std::collections::{BTreeMap, BTreeSet};
 
 pub const PROGRAM: &str = "program";
 
+/// The reference's extractor over labels cut short.
+pub const CUT_LABELS: &str = "cut label";
+
 const ACCEPTED: &str = "accepted";
 const IS_PRESENT: &str = "Present";
 const IS_ABSENT: &str = "Absent";
@@ -49,6 +52,12 @@ impl Tally {
         met.and_then(|met| met.values.last()).copied().unwrap_or(0)
     }
 
+    /// How many calls were accepted, and how many different values they answered.
+    pub fn accepted(&self, function: &'static str) -> (u64, usize) {
+        let met = self.met.get(&(function, 0, ACCEPTED));
+        met.map_or((0, 0), |met| (met.cases, met.values.len()))
+    }
+
     /// Prints the table; answers the rules met fewer times than asked.
     pub fn print(&self) -> Vec<String> {
         let mut faults = Vec::new();
@@ -88,7 +97,7 @@ const MANY: u64 = 100;
 const PROGRAM_NUMBERS: [u16; 8] =
     [0, SIZE, NO_KEYS, OVER_3000_KEYS, NOT_ASCENDING, FIRST_OR_SECOND_LINE, NOT_A_CODE, LINES_AND_COUNT];
 
-const RULES: [Rule; 75] = [
+const RULES: [Rule; 78] = [
     ("hash", 0, ACCEPTED),
     ("hash", SIZE, sha256::MESSAGE_TOO_LONG),
     ("hash", SIZE, sha256::OUTPUT_NOT_32),
@@ -164,4 +173,7 @@ const RULES: [Rule; 75] = [
     ("extract", DIGEST_DIFFERS, extractor::SECOND_REFUSED),
     ("extract", NO_CONTRADICTION, extractor::BOTH_PRESENT),
     ("extract", NO_CONTRADICTION, extractor::BOTH_ABSENT),
+    (CUT_LABELS, 0, ACCEPTED),
+    (CUT_LABELS, NO_CONTRADICTION, extractor::BOTH_PRESENT),
+    (CUT_LABELS, NO_CONTRADICTION, extractor::BOTH_ABSENT),
 ];
