@@ -21,6 +21,20 @@ extern "C" {
         att: *const u8,
         att_len: usize,
     ) -> u64;
+    pub fn sagebutton_extract(
+        key: *const u8,
+        key_len: usize,
+        digest: *const u8,
+        digest_len: usize,
+        first: *const u8,
+        first_len: usize,
+        second: *const u8,
+        second_len: usize,
+        out1: *mut u8,
+        out1_len: usize,
+        out2: *mut u8,
+        out2_len: usize,
+    ) -> u64;
 }
 
 pub fn hash(message: &[u8], output: &mut [u8]) -> Option<usize> {
