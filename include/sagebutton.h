@@ -64,6 +64,16 @@ uint64_t sagebutton_attest(const uint8_t *key, size_t key_len, const uint8_t *ke
 uint64_t sagebutton_verify(const uint8_t *key, size_t key_len, const uint8_t *digest, size_t digest_len,
                            const uint8_t *att, size_t att_len);
 
+/* From two attestations for one key under one digest that contradict each other, one accepted as present and the other as absent:
+ * two different node records with the same SHA-256, the first attestation's into out1, the second's into out2, exactly 85 octets
+ * each. Answers the number of levels, from the root down, on which the two still agree. docs/EVIDENCE.md says how anyone can check
+ * such a pair.
+ * Refuses, in this order: 1 at 0, key_len not 20, digest_len not 32, out1_len or out2_len not 85; the number with which
+ * sagebutton_verify refuses the first attestation, at 1; that of the second, at 2; 11 at 0, the same verdict on both. */
+uint64_t sagebutton_extract(const uint8_t *key, size_t key_len, const uint8_t *digest, size_t digest_len,
+                            const uint8_t *first, size_t first_len, const uint8_t *second, size_t second_len,
+                            uint8_t *out1, size_t out1_len, uint8_t *out2, size_t out2_len);
+
 #ifdef __cplusplus
 }
 #endif

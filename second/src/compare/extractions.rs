@@ -1,5 +1,5 @@
 //! Named examples of extracting with their answers written down by hand: document 01's
-//! order of refusals on list F's attestations, and point 14 of its readings.
+//! order of refusals on list F's attestations, and what docs/DECISIONS.md settles.
 
 use super::attestations::{of_1_1, of_2_7, of_3_4};
 use super::comparison::{octets_of_hex, Comparison, Expected};
@@ -35,8 +35,8 @@ fn one_refused() -> Vec<Example> {
         ("x is the second's k1", "2-7", of_2_7(), of_1_1(), (9, 2)),
         ("x is the first's k2", "3-4", of_1_1(), of_3_4(), (9, 1)),
         ("x is the second's k2", "3-4", of_3_4(), of_1_1(), (9, 2)),
-        ("readings 14: a 10 has place 1", "2-8", of_1_1(), of_2_7(), (10, 1)),
-        ("readings 14: a 10 has place 2", "2-8", of_2_7(), of_1_1(), (10, 2)),
+        ("a 10 has place 1", "2-8", of_1_1(), of_2_7(), (10, 1)),
+        ("a 10 has place 2", "2-8", of_2_7(), of_1_1(), (10, 2)),
     ]
 }
 
@@ -46,14 +46,14 @@ fn none_or_both_refused() -> Vec<Example> {
         ("both Present, deeper", "1-1", of_1_1(), of_1_1(), (11, 0)),
         ("both Absent", "3-39", of_2_7(), of_2_7(), (11, 0)),
         ("both Absent, the first key", "1", of_1_1(), of_1_1(), (11, 0)),
-        ("readings 14: both empty", "3-4", vec![], vec![], (7, 1)),
-        ("readings 14: 7 and 9", "3-4", vec![], of_1_1(), (7, 1)),
-        ("readings 14: 9 and 7", "3-4", of_1_1(), vec![], (9, 1)),
-        ("readings 14: 8 and 10", "3-39", of_3_4(), of_1_1(), (8, 1)),
-        ("readings 14: 10 and 8", "3-39", of_1_1(), of_3_4(), (10, 1)),
-        ("readings 14: 9 at 2 and 9 at 1", "3-4", of_1_1(), of_2_7(), (9, 1)),
-        ("readings 14: 9 at 1 and 9 at 2", "3-4", of_2_7(), of_1_1(), (9, 1)),
-        ("readings 14: 10 and 10", "A-2", of_1_1(), of_1_1(), (10, 1)),
+        ("both empty", "3-4", vec![], vec![], (7, 1)),
+        ("7 and 9", "3-4", vec![], of_1_1(), (7, 1)),
+        ("9 and 7", "3-4", of_1_1(), vec![], (9, 1)),
+        ("8 and 10", "3-39", of_3_4(), of_1_1(), (8, 1)),
+        ("10 and 8", "3-39", of_1_1(), of_3_4(), (10, 1)),
+        ("9 at 2 and 9 at 1", "3-4", of_1_1(), of_2_7(), (9, 1)),
+        ("9 at 1 and 9 at 2", "3-4", of_2_7(), of_1_1(), (9, 1)),
+        ("10 and 10", "A-2", of_1_1(), of_1_1(), (10, 1)),
     ]
 }
 
@@ -82,7 +82,7 @@ fn sizes(comparison: &mut Comparison, d: &[u8]) {
         {
             let inputs: [&[u8]; 4] = [&x[..x_len], &d[..d_len], &first, &second];
             let rooms = [first_room, second_room];
-            comparison.example("readings 14: 1 first", Function::Extract, &inputs, &rooms, &Refused(1, 0));
+            comparison.example("1 first", Function::Extract, &inputs, &rooms, &Refused(1, 0));
         }
     }
 }
