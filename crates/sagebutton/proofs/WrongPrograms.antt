@@ -1,0 +1,271 @@
+-- Each wrong program by one small input on which the promise says otherwise: the list of one key, the text of one code, the list
+-- of two keys, and two attestations of one node each.
+use mathlib.Core.Path.{_≡_, refl, sym, ap, _∙_}
+use mathlib.Core.Bool.{true, false}
+use mathlib.Core.List.{List, [], _∷_, _++_, flatten}
+use mathlib.Core.Option.{none, some}
+use Prim.Native.Nat.{ℕ, _≤_}
+use native.Mathlib.Omega.{arith}
+use borrow.Author.Tests.{le-leb}
+use lib.ListN.{length, drop, replicate, getD, length-take, length-append, length-replicate}
+use Rattle.answer.specs.declared.Answer.the-variants.{Done, Refused}
+use Rattle.answer.specs.declared.Verdict.the-variants as verdict
+use Rattle.answer.specs.Answer.{written}
+use Rattle.answer.specs.Refusals.{too-short}
+use Rattle.octets.specs.Order.{Octets, order, same}
+use Rattle.sha256.proofs.Fips180Laws.{sha256-length}
+use Rattle.attester.specs.Entry.{key}
+use Rattle.attester.specs.Record.{flag, child-octets, node-record}
+use Rattle.attester.specs.Tree.{tree-within, tree}
+use Rattle.attester.specs.Label.{label, digest}
+use Rattle.attester.specs.Listing.{Listing}
+use Rattle.attester.specs.Path.{foot, step, foot-entry, foot-left, foot-right, height}
+use Rattle.attester.specs.Form.{shown}
+use Rattle.attester.specs.Verdict.{present, side, child-there, hidden, fault, root-record, judge}
+use Rattle.attester.specs.Verify.{judged, verify}
+use Rattle.attester.specs.Search.{search, listed}
+use Rattle.attester.specs.Attestation.{render, attestation}
+use Rattle.attester.specs.Walk.{walk}
+use Rattle.attester.specs.Extract.{extracted, contradiction, sized, extract}
+use Rattle.attester.specs.Extract as extraction
+use Rattle.attester.proofs.AdmissionLaws.{listing-admitted}
+use Rattle.attester.proofs.FormLaws.{form-of-render}
+use Rattle.attester.proofs.VerdictLaws.{judge-passed}
+use Rattle.attester.proofs.VerifyLaws.{verify-rendered}
+use Rattle.attester.proofs.AttestationLaws.{form-of-attestation}
+use Rattle.attester.proofs.Demand2 as theory
+use Rattle.codes.specs.Code.{within, all, digit, letter, hyphen, character, apart, is-code, key-of}
+use Rattle.codes.specs.Count as count
+use Rattle.codes.specs.Text as text
+use Rattle.codes.specs.Read.{answer, keys}
+use Rattle.tree.specs.Edition.{hash, width, most}
+use Rattle.attestation.specs.Attest.{issue-answer, attest-answer}
+use Rattle.attestation.specs.Verify.{verdict-of}
+use Rattle.extractor.specs.Extract.{first-record}
+use Rattle.sagebutton.specs.WrongPrograms.{Issued, Refuses-all, Absent-to-all, Always-6, Writes-no-keys, Another-count, Labels, Collision, foot-only, Foot-suffices, front, zeros, Contradictory, Does-nothing, Shows-one-pair, Wrong-programs-rejected}
+use Rattle.sagebutton.proofs.Demand2.{demand-2}
+
+-- two keys
+abbrev low : Octets
+low = replicate 20 0
+
+abbrev high : Octets
+high = replicate 20 1
+
+-- The verifiers: in the list of one key, that key is present
+
+one : List Octets
+one = low ∷ []
+
+one-listing : Listing width most one
+unfolding one
+one-listing = record {
+  some-entry = omega arith;
+  few = omega arith;
+  sized = (refl, tt);
+  ascending = (tt, tt);
+}
+
+one-issued : Issued one low (digest hash one) (attestation hash one low)
+one-issued = record { listing = one-listing; key-size = refl; digest-is = refl; is = refl }
+
+one-listed : listed low one ≡ true
+unfolding one listed same key order
+one-listed = refl
+
+one-present : verdict-of (verify hash width low (digest hash one) (attestation hash one low)) ≡ verdict.Present
+unfolding verdict-of
+one-present = rw (theory.demand-2 hash sha256-length width most (omega arith) one low one-listing refl, one-listed)
+
+refuses-all : Refuses-all → ⊥
+refuses-all h =
+    let v = h one low (digest hash one) (attestation hash one low) one-issued in
+    let e : verdict.Refused (v .0) (v .1) ≡ verdict.Present = v .2 .answered ∙ one-present in
+    let z : _≡_ {A = ℕ} 0 1 = cc in
+    omega arith
+
+absent-to-all : Absent-to-all → ⊥
+absent-to-all h =
+    let e : verdict.Absent ≡ verdict.Present = h one low (digest hash one) (attestation hash one low) one-issued .answered ∙ one-present in
+    let z : _≡_ {A = ℕ} 0 1 = cc in
+    omega arith
+
+-- The issuer: there is room
+
+always-6 : Always-6 → ⊥
+unfolding attest-answer issue-answer
+always-6 h =
+    let out : Octets = replicate 586 0 in
+    let r : Refused too-short 0 ≡ attest-answer hash width most low (flatten one) (length out) = h one low out one-listing refl (omega arith) .1 .answered in
+    let short : length (attestation hash one low) ≤ 586 =
+    demand-2 .longest-issued .most (attestation hash one low) record { list = one; listing = one-listing; key = low; key-size = refl; is = refl } in
+    let a = listing-admitted width most one (omega arith) one-listing in
+    let f = le-leb (length (attestation hash one low)) (length out) (omega arith) in
+    let e : Refused too-short 0 ≡ Done (length (attestation hash one low)) = r ∙ rw (a, f) in
+    let z : _≡_ {A = ℕ} 0 1 = cc in
+    omega arith
+
+-- The list readers: the text of one code
+
+-- the lines `codes`, `1` and `1`
+abbrev text-1 : Octets
+text-1 = 0x63 ∷ 0x6F ∷ 0x64 ∷ 0x65 ∷ 0x73 ∷ 0x0A ∷ 0x31 ∷ 0x0A ∷ 0x31 ∷ 0x0A ∷ []
+
+abbrev key-1 : Octets
+key-1 = key-of (0x31 ∷ [])
+
+text-1-accepted : text.reading 20 text-1 ≡ text.accepted (key-1 ∷ [])
+unfolding text.reading text.opening text.second-line text.ended text.before-LF text.line text.rest text.counted text.codes text.fault text.above text.more order same within all digit letter hyphen character apart is-code key-of count.is-count count.number count.number-after
+text-1-accepted = refl
+
+-- what must be written into a buffer of zeros is not zeros
+key-1-shows : low ≡ flatten (key-1 ∷ []) ++ drop (length (flatten (key-1 ∷ []))) low → ⊥
+unfolding key-of flatten
+key-1-shows e = let z : _≡_ {A = ℕ} 0 0x31 = ap (λ s. getD s 0 0) e in omega arith
+
+writes-no-keys : Writes-no-keys → ⊥
+unfolding written keys
+writes-no-keys h = key-1-shows (rw text-1-accepted at (h text-1 low (key-1 ∷ []) text-1-accepted .1 .left))
+
+another-count : Another-count → ⊥
+unfolding answer
+another-count h =
+    let r = h text-1 low (key-1 ∷ []) text-1-accepted in
+    let e : Done (r .0) ≡ Done 1 = rw text-1-accepted at (r .3 .answered) in
+    r .2 cc
+
+-- The verifier that ignores the levels above: in the list of two keys, the lower one's record is not the root's
+
+two : List Octets
+two = low ∷ high ∷ []
+
+two-listing : Listing width most two
+unfolding two key order
+two-listing = record {
+  some-entry = omega arith;
+  few = omega arith;
+  sized = (refl, (refl, tt));
+  ascending = ((refl, tt), (tt, tt));
+}
+
+module _ (H : Octets → Octets) where
+  -- the two records
+  abbrev foot-record : Octets
+  foot-record = node-record none low none
+
+  abbrev top-record : Octets
+  top-record = node-record (some (H foot-record)) high none
+
+  two-path : search H low (tree two) ≡ step high none (foot low none none)
+  unfolding two tree tree-within search side key order label
+  two-path = refl
+
+  two-digest : digest H two ≡ H top-record
+  unfolding two tree tree-within label digest child-octets
+  two-digest = refl
+
+  two-listed : listed low two ≡ true
+  unfolding two listed same key order
+  two-listed = refl
+
+  foot-only-judges : Labels H → foot-only H low (digest H two) (attestation H two low) ≡ judge H low (H top-record) (foot low none none)
+  unfolding foot-only judged foot-entry foot-left foot-right
+  foot-only-judges H-length = rw (form-of-attestation H H-length width most two low two-listing (omega arith), two-path, two-digest)
+
+  one-label : Labels H → Foot-suffices H → H foot-record ≡ H top-record
+  unfolding root-record
+  one-label H-length h =
+      let e : judge H low (H top-record) (foot low none none) ≡ present = sym (foot-only-judges H-length) ∙ (h two low two-listing refl ∙ rw two-listed) in
+      judge-passed H low (H top-record) (foot low none none) (rw e tt) .hashes
+
+front-labels : Labels front
+front-labels r = simp (length-take, length-append, length-replicate) (omega arith)
+
+-- octet 0 is 0 in one record and 1 in the other
+fronts-differ : front (foot-record front) ≡ front (top-record front) → ⊥
+unfolding node-record flag
+fronts-differ e = let z : _≡_ {A = ℕ} 0 1 = ap (λ s. getD s 0 0) e in omega arith
+
+records-differ : (H : Octets → Octets) → foot-record H ≡ top-record H → ⊥
+unfolding node-record flag
+records-differ H e = let z : _≡_ {A = ℕ} 0 1 = ap (λ s. getD s 0 0) e in omega arith
+
+foot-suffices-collides : (H : Octets → Octets) → Labels H → Foot-suffices H → Collision H
+foot-suffices-collides H H-length h = record {
+  first = foot-record H;
+  second = top-record H;
+  differ = records-differ H;
+  same-label = one-label H H-length h;
+}
+
+-- The extractors: a key is present by its own node alone, and absent by the other's
+
+abbrev node-of : Octets → Octets
+node-of e = render (foot e none none)
+
+-- the verdict on them is the verdict on their paths
+module _ (x e : Octets) (m : length x ≡ 20) (n : length e ≡ 20) where
+  node-of-judged : verify zeros width x (zeros []) (node-of e) ≡ judge zeros x (zeros []) (foot e none none)
+  unfolding height
+  node-of-judged = verify-rendered zeros width x (zeros []) (foot e none none) m refl (n, tt, tt) (omega arith)
+
+low-contradictory : Contradictory zeros low (zeros []) (node-of low) (node-of high)
+unfolding judge hidden child-there side fault same key order foot-entry foot-left foot-right
+low-contradictory = record { first = node-of-judged low low refl refl; second = node-of-judged low high refl refl }
+
+high-contradictory : Contradictory zeros high (zeros []) (node-of high) (node-of low)
+unfolding judge hidden child-there side fault same key order foot-entry foot-left foot-right
+high-contradictory = record { first = node-of-judged high high refl refl; second = node-of-judged high low refl refl }
+
+node-of-shows : (e : Octets) → length e ≡ 20 → shown width (node-of e) ≡ foot e none none
+unfolding shown height
+node-of-shows e n = rw (form-of-render width (foot e none none) (n, tt, tt) (omega arith))
+
+-- what must be shown: the nodes' records
+abbrev record-of : Octets → Octets
+record-of e = node-record none e none
+
+module _ (x y : Octets) (m : length x ≡ 20) (n : length y ≡ 20) (c : Contradictory zeros x (zeros []) (node-of x) (node-of y)) where
+  must-show : same (record-of x) (record-of y) ≡ false
+      → extract zeros width x (zeros []) (node-of x) (node-of y) 85 85 ≡ extracted record { passed = 0; first = record-of x; second = record-of y }
+  unfolding extract sized contradiction walk root-record
+  must-show differ = rw (m, c .first, c .second, node-of-shows x m, node-of-shows y n, differ)
+
+low-shown : extract zeros width low (zeros []) (node-of low) (node-of high) 85 85 ≡ extracted record { passed = 0; first = record-of low; second = record-of high }
+unfolding same order node-record child-octets flag
+low-shown = must-show low high refl refl low-contradictory refl
+
+high-shown : extract zeros width high (zeros []) (node-of high) (node-of low) 85 85 ≡ extracted record { passed = 0; first = record-of high; second = record-of low }
+unfolding same order node-record child-octets flag
+high-shown = must-show high low refl refl high-contradictory refl
+
+does-nothing : Does-nothing zeros → ⊥
+does-nothing h =
+    let r = h low (zeros []) (node-of low) (node-of high) low-contradictory in
+    let e : extraction.refused (r .0) (r .1) ≡ extracted record { passed = 0; first = record-of low; second = record-of high } = sym (r .2) ∙ low-shown in
+    let z : _≡_ {A = ℕ} 0 1 = cc in
+    omega arith
+
+keys-differ : record-of low ≡ record-of high → ⊥
+unfolding node-record child-octets
+keys-differ e = let z : _≡_ {A = ℕ} 0 1 = ap (λ s. getD s 33 0) e in omega arith
+
+shows-one-pair : (r s : Octets) → Shows-one-pair zeros r s → ⊥
+unfolding first-record
+shows-one-pair r s h =
+    let p : r ≡ record-of low = ap first-record (sym (h low (zeros []) (node-of low) (node-of high) low-contradictory .1) ∙ low-shown) in
+    let q : r ≡ record-of high = ap first-record (sym (h high (zeros []) (node-of high) (node-of low) high-contradictory .1) ∙ high-shown) in
+    keys-differ (sym p ∙ q)
+
+pub wrong-programs-rejected : Wrong-programs-rejected
+wrong-programs-rejected = record {
+  refuses-all = refuses-all;
+  absent-to-all = absent-to-all;
+  always-6 = always-6;
+  writes-no-keys = writes-no-keys;
+  another-count = another-count;
+  foot-suffices = λ h. fronts-differ (one-label front front-labels h);
+  foot-suffices-collides = foot-suffices-collides;
+  does-nothing = does-nothing;
+  shows-one-pair = shows-one-pair;
+}
