@@ -1,7 +1,7 @@
 -- Each wrong program by one small input on which the promise says otherwise: the list of one key, the text of one code, the list
--- of two keys, and two attestations of one node each.
+-- of two keys. The extractors are in `WrongExtractors`.
 use mathlib.Core.Path.{_≡_, refl, sym, ap, _∙_}
-use mathlib.Core.Bool.{true, false}
+use mathlib.Core.Bool.{true}
 use mathlib.Core.List.{List, [], _∷_, _++_, flatten}
 use mathlib.Core.Option.{none, some}
 use Prim.Native.Nat.{ℕ, _≤_}
@@ -9,6 +9,7 @@ use native.Mathlib.Omega.{arith}
 use borrow.Author.Tests.{le-leb}
 use lib.ListN.{length, drop, replicate, getD, length-take, length-append, length-replicate}
 use Rattle.answer.specs.declared.Answer.the-variants.{Done, Refused}
+use Rattle.answer.specs.declared.Verdict.{Verdict}
 use Rattle.answer.specs.declared.Verdict.the-variants as verdict
 use Rattle.answer.specs.Answer.{written}
 use Rattle.answer.specs.Refusals.{too-short}
@@ -19,19 +20,14 @@ use Rattle.attester.specs.Record.{flag, child-octets, node-record}
 use Rattle.attester.specs.Tree.{tree-within, tree}
 use Rattle.attester.specs.Label.{label, digest}
 use Rattle.attester.specs.Listing.{Listing}
-use Rattle.attester.specs.Path.{foot, step, foot-entry, foot-left, foot-right, height}
-use Rattle.attester.specs.Form.{shown}
-use Rattle.attester.specs.Verdict.{present, side, child-there, hidden, fault, root-record, judge}
+use Rattle.attester.specs.Path.{foot, step, foot-entry, foot-left, foot-right}
+use Rattle.attester.specs.Verdict.{Judgement, present, absent, side, root-record, judge}
+use Rattle.attester.specs.Verdict as judgement
 use Rattle.attester.specs.Verify.{judged, verify}
 use Rattle.attester.specs.Search.{search, listed}
-use Rattle.attester.specs.Attestation.{render, attestation}
-use Rattle.attester.specs.Walk.{walk}
-use Rattle.attester.specs.Extract.{extracted, contradiction, sized, extract}
-use Rattle.attester.specs.Extract as extraction
+use Rattle.attester.specs.Attestation.{attestation}
 use Rattle.attester.proofs.AdmissionLaws.{listing-admitted}
-use Rattle.attester.proofs.FormLaws.{form-of-render}
 use Rattle.attester.proofs.VerdictLaws.{judge-passed}
-use Rattle.attester.proofs.VerifyLaws.{verify-rendered}
 use Rattle.attester.proofs.AttestationLaws.{form-of-attestation}
 use Rattle.attester.proofs.Demand2 as theory
 use Rattle.codes.specs.Code.{within, all, digit, letter, hyphen, character, apart, is-code, key-of}
@@ -41,16 +37,9 @@ use Rattle.codes.specs.Read.{answer, keys}
 use Rattle.tree.specs.Edition.{hash, width, most}
 use Rattle.attestation.specs.Attest.{issue-answer, attest-answer}
 use Rattle.attestation.specs.Verify.{verdict-of}
-use Rattle.extractor.specs.Extract.{first-record}
-use Rattle.sagebutton.specs.WrongPrograms.{Issued, Refuses-all, Absent-to-all, Always-6, Writes-no-keys, Another-count, Labels, Collision, foot-only, Foot-suffices, front, zeros, Contradictory, Does-nothing, Shows-one-pair, Wrong-programs-rejected}
+use Rattle.sagebutton.specs.WrongPrograms.{Issued, Refuses-all, Absent-to-all, Always-6, Writes-no-keys, Another-count, Labels, Collision, foot-only, Foot-suffices, Foot-verifies, front, Wrong-programs-rejected}
 use Rattle.sagebutton.proofs.Demand2.{demand-2}
-
--- two keys
-abbrev low : Octets
-low = replicate 20 0
-
-abbrev high : Octets
-high = replicate 20 1
+use Rattle.sagebutton.proofs.WrongExtractors.{low, high, does-nothing, shows-one-pair}
 
 -- The verifiers: in the list of one key, that key is present
 
@@ -198,64 +187,26 @@ foot-suffices-collides H H-length h = record {
   same-label = one-label H H-length h;
 }
 
--- The extractors: a key is present by its own node alone, and absent by the other's
+-- a verdict tells its judgement
+judgement-of : Verdict → Judgement
+judgement-of verdict.Present = present
+judgement-of verdict.Absent = absent
+judgement-of (verdict.Refused m p) = judgement.refused m p
 
-abbrev node-of : Octets → Octets
-node-of e = render (foot e none none)
+judgement-of-verdict : (v : Judgement) → judgement-of (verdict-of v) ≡ v
+unfolding verdict-of judgement-of
+judgement-of-verdict present = refl
+judgement-of-verdict absent = refl
+judgement-of-verdict (judgement.refused m p) = refl
 
--- the verdict on them is the verdict on their paths
-module _ (x e : Octets) (m : length x ≡ 20) (n : length e ≡ 20) where
-  node-of-judged : verify zeros width x (zeros []) (node-of e) ≡ judge zeros x (zeros []) (foot e none none)
-  unfolding height
-  node-of-judged = verify-rendered zeros width x (zeros []) (foot e none none) m refl (n, tt, tt) (omega arith)
-
-low-contradictory : Contradictory zeros low (zeros []) (node-of low) (node-of high)
-unfolding judge hidden child-there side fault same key order foot-entry foot-left foot-right
-low-contradictory = record { first = node-of-judged low low refl refl; second = node-of-judged low high refl refl }
-
-high-contradictory : Contradictory zeros high (zeros []) (node-of high) (node-of low)
-unfolding judge hidden child-there side fault same key order foot-entry foot-left foot-right
-high-contradictory = record { first = node-of-judged high high refl refl; second = node-of-judged high low refl refl }
-
-node-of-shows : (e : Octets) → length e ≡ 20 → shown width (node-of e) ≡ foot e none none
-unfolding shown height
-node-of-shows e n = rw (form-of-render width (foot e none none) (n, tt, tt) (omega arith))
-
--- what must be shown: the nodes' records
-abbrev record-of : Octets → Octets
-record-of e = node-record none e none
-
-module _ (x y : Octets) (m : length x ≡ 20) (n : length y ≡ 20) (c : Contradictory zeros x (zeros []) (node-of x) (node-of y)) where
-  must-show : same (record-of x) (record-of y) ≡ false
-      → extract zeros width x (zeros []) (node-of x) (node-of y) 85 85 ≡ extracted record { passed = 0; first = record-of x; second = record-of y }
-  unfolding extract sized contradiction walk root-record
-  must-show differ = rw (m, c .first, c .second, node-of-shows x m, node-of-shows y n, differ)
-
-low-shown : extract zeros width low (zeros []) (node-of low) (node-of high) 85 85 ≡ extracted record { passed = 0; first = record-of low; second = record-of high }
-unfolding same order node-record child-octets flag
-low-shown = must-show low high refl refl low-contradictory refl
-
-high-shown : extract zeros width high (zeros []) (node-of high) (node-of low) 85 85 ≡ extracted record { passed = 0; first = record-of high; second = record-of low }
-unfolding same order node-record child-octets flag
-high-shown = must-show high low refl refl high-contradictory refl
-
-does-nothing : Does-nothing zeros → ⊥
-does-nothing h =
-    let r = h low (zeros []) (node-of low) (node-of high) low-contradictory in
-    let e : extraction.refused (r .0) (r .1) ≡ extracted record { passed = 0; first = record-of low; second = record-of high } = sym (r .2) ∙ low-shown in
-    let z : _≡_ {A = ℕ} 0 1 = cc in
-    omega arith
-
-keys-differ : record-of low ≡ record-of high → ⊥
-unfolding node-record child-octets
-keys-differ e = let z : _≡_ {A = ℕ} 0 1 = ap (λ s. getD s 33 0) e in omega arith
-
-shows-one-pair : (r s : Octets) → Shows-one-pair zeros r s → ⊥
-unfolding first-record
-shows-one-pair r s h =
-    let p : r ≡ record-of low = ap first-record (sym (h low (zeros []) (node-of low) (node-of high) low-contradictory .1) ∙ low-shown) in
-    let q : r ≡ record-of high = ap first-record (sym (h high (zeros []) (node-of high) (node-of low) high-contradictory .1) ∙ high-shown) in
-    keys-differ (sym p ∙ q)
+foot-verifies-suffices : Foot-verifies → Foot-suffices hash
+foot-verifies-suffices h list x l n =
+    let d = digest hash list in
+    let a = attestation hash list x in
+    let v = h list x d a record { listing = l; key-size = n; digest-is = refl; is = refl } in
+    sym (judgement-of-verdict (foot-only hash x d a))
+    ∙ (ap judgement-of (v .answered) ∙ judgement-of-verdict (verify hash width x d a))
+    ∙ theory.demand-2 hash sha256-length width most (omega arith) list x l n
 
 pub wrong-programs-rejected : Wrong-programs-rejected
 wrong-programs-rejected = record {
@@ -266,6 +217,7 @@ wrong-programs-rejected = record {
   another-count = another-count;
   foot-suffices = λ h. fronts-differ (one-label front front-labels h);
   foot-suffices-collides = foot-suffices-collides;
+  foot-verifies-collides = λ h. foot-suffices-collides hash sha256-length (foot-verifies-suffices h);
   does-nothing = does-nothing;
   shows-one-pair = shows-one-pair;
 }

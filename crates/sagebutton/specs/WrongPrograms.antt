@@ -25,7 +25,7 @@ use Rattle.codes.specs.Text.{accepted, reading}
 use Rattle.codes.specs.Read.{Read}
 use Rattle.tree.specs.Edition.{hash, width, most}
 use Rattle.attestation.specs.Attest.{Attested}
-use Rattle.attestation.specs.Verify.{Verified}
+use Rattle.attestation.specs.Verify.{Verified, verdict-of}
 
 -- d is an accepted list's digest, and a the attestation that is issued for the key x under that list
 pub record Issued (list : List Octets) (x d a : Octets) : Type 0 where
@@ -80,6 +80,10 @@ abbrev pub Foot-suffices : (Octets → Octets) → Type 0
 Foot-suffices H = (list : List Octets) (x : Octets) → Listing width most list → length x ≡ 20
     → foot-only H x (digest H list) (attestation H list x) ≡ cond (listed x list) present absent
 
+-- that it keeps the promise there
+abbrev pub Foot-verifies : Type 0
+Foot-verifies = (list : List Octets) (x d a : Octets) → Issued list x d a → Verified x d a (verdict-of (foot-only hash x d a))
+
 -- a label function to compute with: a record's first 32 octets
 abbrev pub front : Octets → Octets
 front r = take 32 (r ++ replicate 32 0)
@@ -102,8 +106,8 @@ abbrev pub Shows-one-pair : (Octets → Octets) → Octets → Octets → Type 0
 Shows-one-pair H r s = (x d a b : Octets) → Contradictory H x d a b
     → (i : ℕ) × (extract H width x d a b 85 85 ≡ extracted record { passed = i; first = r; second = s })
 
--- SHA-256 offers no contradiction, and none of its labels is computed here. So the last four are of other label functions: of any,
--- SHA-256 among them, or of one that serves as the example.
+-- SHA-256 offers no contradiction, and none of its labels is computed here. So the last are of other label functions too, or say that
+-- the wrong program would give a collision.
 pub record Wrong-programs-rejected : Type 0 where
   pub refuses-all : Refuses-all → ⊥
   pub absent-to-all : Absent-to-all → ⊥
@@ -112,5 +116,6 @@ pub record Wrong-programs-rejected : Type 0 where
   pub another-count : Another-count → ⊥
   pub foot-suffices : Foot-suffices front → ⊥
   pub foot-suffices-collides : (H : Octets → Octets) → Labels H → Foot-suffices H → Collision H
+  pub foot-verifies-collides : Foot-verifies → Collision hash
   pub does-nothing : Does-nothing zeros → ⊥
   pub shows-one-pair : (r s : Octets) → Shows-one-pair zeros r s → ⊥
