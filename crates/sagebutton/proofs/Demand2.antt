@@ -22,7 +22,6 @@ use Rattle.attester.specs.Label.{digest}
 use Rattle.attester.specs.Listing.{Listing}
 use Rattle.attester.specs.Admission.{Admission, admitted, refused, admit}
 use Rattle.attester.specs.Verdict.{present, absent}
-use Rattle.attester.specs.Verify.{verify}
 use Rattle.attester.specs.Search.{listed}
 use Rattle.attester.specs.Attestation.{attestation}
 use Rattle.attester.specs.Longest.{Issued, Longest}
