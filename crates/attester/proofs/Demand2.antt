@@ -2,8 +2,7 @@
 -- list's tree, so it passes steps 3 and 4, hashes to the digest, and its foot is x's node exactly if x is listed.
 use mathlib.Core.Path.{_≡_, sym, ap, _∙_}
 use mathlib.Core.Bool.{cond}
-use Prim.Native.Nat.{ℕ, _^_, _<_}
-use lib.ListN.{length}
+use Prim.Native.Nat.{ℕ}
 use Rattle.octets.specs.Order.{Octets, same}
 use Rattle.octets.proofs.OrderLaws.{same-refl}
 use Rattle.attester.specs.Tree.{tree}
@@ -19,8 +18,8 @@ use Rattle.attester.proofs.VerifyLaws.{verify-formed}
 use Rattle.attester.proofs.SearchLaws.{found-open, found-faultless}
 use Rattle.attester.proofs.AttestationLaws.{issued-found, issued-digest, issued-listed, form-of-attestation}
 
-pub demand-2 : (H : Octets → Octets) → ((m : Octets) → length (H m) ≡ 32) → (w most : ℕ) → most < 2 ^ 32 → Demand-2 H w most
-demand-2 H H-length w most few es x l n =
+pub demand-2 : (H : Octets → Octets) (w most : ℕ) → Demand-2 H w most
+demand-2 H w most H-length few es x l n =
     let p = search H x (tree es) in
     let d = digest H es in
     let f = issued-found H es x (l .some-entry) in

@@ -33,8 +33,8 @@ accepted-shows H w x d a h =
       answer = v .answer;
     }
 
-pub demand-3 : (H : Octets → Octets) → ((m : Octets) → length (H m) ≡ 32) → (w : ℕ) → Demand-3 H w
-demand-3 H H-length w x d a b g h differ =
+pub demand-3 : (H : Octets → Octets) (w : ℕ) → Demand-3 H w
+demand-3 H w H-length x d a b g h differ =
     let s = accepted-shows H w x d a g in
     let t = accepted-shows H w x d b h in
     walked H H-length w x (shown w a) (shown w b) (s .clean) (t .clean) (s .hashes ∙ sym (t .hashes)) differ

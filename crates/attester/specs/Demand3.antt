@@ -3,6 +3,7 @@ use mathlib.Core.Path.{_≡_}
 use mathlib.Core.Option.{some}
 use Prim.Native.Nat.{ℕ, _≤_}
 use Rattle.octets.specs.Order.{Octets}
+use Rattle.attester.specs.Record.{Labels}
 use Rattle.attester.specs.Path.{Path, height, down}
 use Rattle.attester.specs.Verdict.{Accepted, root-record}
 use Rattle.attester.specs.Form.{shown}
@@ -27,10 +28,11 @@ pub record Walked (H : Octets → Octets) (x : Octets) (p q : Path) : Type 0 whe
   pub is : walk H x p q ≡ some found
   pub contradiction : Contradiction H x p q found
 
--- For any key, any digest and any two attestations that the verifier accepts, whoever made them: if their verdicts differ, or
+-- H gives labels of 32 octets. For any key, any digest and any two attestations that the verifier accepts, whoever made them: if their verdicts differ, or
 -- merely the paths that they show, the walk finds such a pair.
 abbrev pub Demand-3 : (Octets → Octets) → ℕ → Type 0
-Demand-3 H w = (x d a b : Octets) → Accepted (verify H w x d a) → Accepted (verify H w x d b)
+Demand-3 H w = Labels H
+    → (x d a b : Octets) → Accepted (verify H w x d a) → Accepted (verify H w x d b)
     → (shown w a ≡ shown w b → ⊥) → Walked H x (shown w a) (shown w b)
 
 -- verdicts that differ are of paths that differ

@@ -15,6 +15,10 @@ abbrev pub Labelled : Child → Type 0
 Labelled none = Unit {0}
 Labelled (some l) = length l ≡ 32
 
+-- H gives labels: 32 octets for whatever it is given
+abbrev pub Labels : (Octets → Octets) → Type 0
+Labels H = (r : Octets) → length (H r) ≡ 32
+
 -- 1 if there is a child
 abbrev pub bit : Child → ℕ
 bit none = 0

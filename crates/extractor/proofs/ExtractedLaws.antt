@@ -120,7 +120,7 @@ module _ (x d a b o₁ o₂ : Octets) where
             contradicting = (
               accepted-formed x d a first-accepted,
               accepted-formed x d b second-accepted,
-              demand-3 hash sha256-length width x d a b first-accepted second-accepted
+              demand-3 hash width sha256-length x d a b first-accepted second-accepted
                   (verdicts-tell-paths hash width x d a b first-accepted second-accepted verdicts-differ),
             )
 

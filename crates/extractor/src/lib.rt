@@ -14,6 +14,7 @@ fn told(which: u32, v: Verdict) -> Answer
     ensures { λ r. ⌜ r ≡ specs.told which v ⌝ }
 {
     let Verdict::Refused { number, place: _ } = v else {
+        // the number of an accepting verdict is 1 or 0
         return Answer::Done(answer::pack_verdict(v) as u32);
     };
     Answer::Refused {

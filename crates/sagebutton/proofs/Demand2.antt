@@ -172,7 +172,7 @@ module _ (keys d : Octets) (n : ℕ) (d′ : Octets) (g : Digested keys d (Done 
       let left = digest-left es (l .listing) d (digest-room keys d n d′ g) (Done n) d′ digested in
       let octets : take m out′ ≡ attestation hash es x = rw (fits .0) at (attest-left es (l .listing) x x20 out (Done m) out′ (attested h) (fits .1)) in
       told .answered
-      ∙ ap verdict-of (rw (left, octets) (theory.demand-2 hash sha256-length width most (omega arith) es x (l .listing) x20))
+      ∙ ap verdict-of (rw (left, octets) (theory.demand-2 hash width most sha256-length (omega arith) es x (l .listing) x20))
       ∙ verdict-cond (listed x es)
 
 pub demand-2 : Demand-2

@@ -71,7 +71,7 @@ module _ (x d a b : Octets) (c : Contradict x d a b) (out₁ out₂ : Octets) (n
   o = opposed x d a b c
 
   u : Walked hash x (shown width a) (shown width b)
-  u = theory.demand-3 hash sha256-length width x d a b (o .first) (o .second) (theory.verdicts-tell-paths hash width x d a b (o .first) (o .second) (o .differ))
+  u = theory.demand-3 hash width sha256-length x d a b (o .first) (o .second) (theory.verdicts-tell-paths hash width x d a b (o .first) (o .second) (o .differ))
 
   sizes : sized width (length x) (length d) (length out₁) (length out₂) ≡ true
   unfolding sized

@@ -16,7 +16,7 @@ use Rattle.answer.specs.Refusals.{too-short}
 use Rattle.octets.specs.Order.{Octets, order, same}
 use Rattle.sha256.proofs.Fips180Laws.{sha256-length}
 use Rattle.attester.specs.Entry.{key}
-use Rattle.attester.specs.Record.{flag, child-octets, node-record}
+use Rattle.attester.specs.Record.{flag, child-octets, node-record, Labels}
 use Rattle.attester.specs.Tree.{tree-within, tree}
 use Rattle.attester.specs.Label.{label, digest}
 use Rattle.attester.specs.Listing.{Listing}
@@ -37,7 +37,7 @@ use Rattle.codes.specs.Read.{answer, keys}
 use Rattle.tree.specs.Edition.{hash, width, most}
 use Rattle.attestation.specs.Attest.{issue-answer, attest-answer}
 use Rattle.attestation.specs.Verify.{verdict-of}
-use Rattle.sagebutton.specs.WrongPrograms.{Issued, Refuses-all, Absent-to-all, Always-6, Writes-no-keys, Another-count, Labels, Collision, foot-only, Foot-suffices, Foot-verifies, front, Wrong-programs-rejected}
+use Rattle.sagebutton.specs.WrongPrograms.{Issued, Refuses-all, Absent-to-all, Always-6, Writes-no-keys, Another-count, Collision, foot-only, Foot-suffices, Foot-verifies, front, Wrong-programs-rejected}
 use Rattle.sagebutton.proofs.Demand2.{demand-2}
 use Rattle.sagebutton.proofs.WrongExtractors.{low, high, does-nothing, shows-one-pair}
 
@@ -64,7 +64,7 @@ one-listed = refl
 
 one-present : verdict-of (verify hash width low (digest hash one) (attestation hash one low)) ≡ verdict.Present
 unfolding verdict-of
-one-present = rw (theory.demand-2 hash sha256-length width most (omega arith) one low one-listing refl, one-listed)
+one-present = rw (theory.demand-2 hash width most sha256-length (omega arith) one low one-listing refl, one-listed)
 
 refuses-all : Refuses-all → ⊥
 refuses-all h =
@@ -206,7 +206,7 @@ foot-verifies-suffices h list x l n =
     let v = h list x d a record { listing = l; key-size = n; digest-is = refl; is = refl } in
     sym (judgement-of-verdict (foot-only hash x d a))
     ∙ (ap judgement-of (v .answered) ∙ judgement-of-verdict (verify hash width x d a))
-    ∙ theory.demand-2 hash sha256-length width most (omega arith) list x l n
+    ∙ theory.demand-2 hash width most sha256-length (omega arith) list x l n
 
 pub wrong-programs-rejected : Wrong-programs-rejected
 wrong-programs-rejected = record {

@@ -38,7 +38,7 @@ Evidence =
     → (out₁ out₂ : Octets) → length out₁ ≡ 85 → length out₂ ≡ 85
     → (r : Answer) (out₁′ out₂′ : Octets) → Extracted x d a b out₁ out₂ r out₁′ out₂′ → Collides x a b r out₁′ out₂′
 
--- Anyone can check such a pair: the two buffers are not the same, and whatever `hash` leaves of the one, it leaves of the other.
+-- Anyone can check such a pair by `hash`: it accepts each of the two buffers, and what it leaves of the one, it leaves of the other.
 abbrev pub Checkable : Type 0
 Checkable =
     (x d a b : Octets) → Contradict x d a b

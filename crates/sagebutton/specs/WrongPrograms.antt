@@ -11,6 +11,7 @@ use Rattle.answer.specs.declared.Answer.the-variants.{Done, Refused}
 use Rattle.answer.specs.declared.Verdict.the-variants as verdict
 use Rattle.answer.specs.Refusals.{too-short}
 use Rattle.octets.specs.Order.{Octets}
+use Rattle.attester.specs.Record.{Labels}
 use Rattle.attester.specs.Label.{digest}
 use Rattle.attester.specs.Listing.{Listing}
 use Rattle.attester.specs.Path.{Path, foot, foot-entry, foot-left, foot-right}
@@ -55,10 +56,6 @@ Writes-no-keys = (text out : Octets) (ks : List Octets) → reading (length out)
 abbrev pub Another-count : Type 0
 Another-count = (text out : Octets) (ks : List Octets) → reading (length out) text ≡ accepted ks
     → (n : ℕ) × (out′ : Octets) × (n ≡ length ks → ⊥) × Read text out (Done n) out′
-
--- a label has 32 octets
-abbrev pub Labels : (Octets → Octets) → Type 0
-Labels H = (r : Octets) → length (H r) ≡ 32
 
 -- two different records with one label
 pub record Collision (H : Octets → Octets) : Type 0 where
