@@ -56,8 +56,8 @@ uint64_t sagebutton_attest(const uint8_t *key, size_t key_len, const uint8_t *ke
 #define SAGEBUTTON_ABSENT 0
 
 /* The verdict on any octets, whoever made them, as an attestation for a key under a digest: SAGEBUTTON_PRESENT or
- * SAGEBUTTON_ABSENT, if it is not refused. Look at sagebutton_refusal first, or compare the whole
- * result: a refusal says nothing of the key.
+ * SAGEBUTTON_ABSENT, if it is not refused. Look at sagebutton_refusal first, or compare the whole result: a refusal says nothing
+ * of the key.
  * Refuses, in this order: 1 at 0, key_len not 20 or digest_len not 32; 7 at the offset of the first octet that cannot stand
  * there, or at att_len if the attestation ends early; 8 at 0, a child at the foot where the key would be; 9 at the level, counted
  * from the foot's 0, where the key itself stands above the foot or a key equals the one below it; 10 at 0, the digest differs. */

@@ -27,7 +27,7 @@ use Rattle.attester.proofs.ExtractLaws.{extract-found}
 use Rattle.tree.specs.Edition.{hash, width}
 use Rattle.attestation.specs.Verify.{verdict-of}
 use Rattle.extractor.specs.Extract.{Extracted, extraction-answer, first-record, second-record}
-use Rattle.sagebutton.specs.Demand3.{Collides, Contradict, Demand-3}
+use Rattle.sagebutton.specs.Demand3.{Hash-alike, Collides, Contradict, Demand-3}
 
 -- Verdicts back to judgements
 
@@ -66,6 +66,19 @@ whole n s out {out′} l e =
     let none-left : drop (length s) out ≡ [] = drop-of-length-le out {i = length s} (omega arith) in
     e ∙ rw none-left (append-nil s)
 
+-- what `hash` answers and leaves of 85 octets
+hashed : (msg h : Octets) (s : Answer) (h′ : Octets) → length msg ≡ 85 → length h ≡ 32 → Hashed msg h s h′ → (s ≡ Done 85) × (h′ ≡ hash msg)
+unfolding hash-answer
+hashed msg h s h′ l k g =
+    let done : s ≡ Done 85 = g .answered ∙ rw (l, k) in
+    (done, whole 85 (hash msg) h (sha256-length msg ∙ sym k) (rw done at (g .left)))
+
+alike : (r s : Octets) → length r ≡ 85 → length s ≡ 85 → hash r ≡ hash s → Hash-alike r s
+alike r s n m e h k l o t u h′ k′ f g =
+    let p = hashed r h t h′ n l f in
+    let q = hashed s k u k′ m o g in
+    (p .0, q .0, p .1 ∙ (e ∙ sym (q .1)))
+
 module _ (x d a b : Octets) (c : Contradict x d a b) (out₁ out₂ : Octets) (n : length out₁ ≡ 85) (m : length out₂ ≡ 85) where
   o : Opposed x d a b
   o = opposed x d a b c
@@ -99,6 +112,15 @@ module _ (x d a b : Octets) (c : Contradict x d a b) (out₁ out₂ : Octets) (n
         let l : out₂′ ≡ written (Done (u .found .passed)) (u .found .second) out₂ = rw (found, answers) at (e .second-left) in
         whole (u .found .passed) (u .found .second) out₂ (theory.rebuilt-length hash sha256-length width x d b (o .second) (u .contradiction .second-rebuilt) ∙ sym m) l
 
+    first-long : length out₁′ ≡ 85
+    first-long = rw first-is (theory.rebuilt-length hash sha256-length width x d a (o .first) (u .contradiction .first-rebuilt))
+
+    second-long : length out₂′ ≡ 85
+    second-long = rw second-is (theory.rebuilt-length hash sha256-length width x d b (o .second) (u .contradiction .second-rebuilt))
+
+    same-hash : hash out₁′ ≡ hash out₂′
+    same-hash = ap hash first-is ∙ (u .contradiction .same-label ∙ ap hash (sym second-is))
+
     collides : Collides x a b r out₁′ out₂′
     collides = record {
       passed = u .found .passed;
@@ -106,27 +128,9 @@ module _ (x d a b : Octets) (c : Contradict x d a b) (out₁ out₂ : Octets) (n
       first-rebuilt = rw first-is (u .contradiction .first-rebuilt);
       second-rebuilt = rw second-is (u .contradiction .second-rebuilt);
       differ = λ s. u .contradiction .differ (sym first-is ∙ (s ∙ second-is));
-      same-hash = ap hash first-is ∙ (u .contradiction .same-label ∙ ap hash (sym second-is));
+      same-hash = same-hash;
+      hash-alike = alike out₁′ out₂′ first-long second-long same-hash;
     }
 
-    first-long : length out₁′ ≡ 85
-    first-long = rw first-is (theory.rebuilt-length hash sha256-length width x d a (o .first) (u .contradiction .first-rebuilt))
-
-    second-long : length out₂′ ≡ 85
-    second-long = rw second-is (theory.rebuilt-length hash sha256-length width x d b (o .second) (u .contradiction .second-rebuilt))
-
--- what `hash` answers and leaves of 85 octets
-hashed : (msg h : Octets) (s : Answer) (h′ : Octets) → length msg ≡ 85 → length h ≡ 32 → Hashed msg h s h′ → (s ≡ Done 85) × (h′ ≡ hash msg)
-unfolding hash-answer
-hashed msg h s h′ l k g =
-    let done : s ≡ Done 85 = g .answered ∙ rw (l, k) in
-    (done, whole 85 (hash msg) h (sha256-length msg ∙ sym k) (rw done at (g .left)))
-
 pub demand-3 : Demand-3
-demand-3 = record {
-  evidence = collides;
-  checkable = λ x d a b c out₁ out₂ n m r out₁′ out₂′ e h₁ h₂ l k s t h₁′ h₂′ g f.
-      let p = hashed out₁′ h₁ s h₁′ (first-long x d a b c out₁ out₂ n m r out₁′ out₂′ e) l g in
-      let q = hashed out₂′ h₂ t h₂′ (second-long x d a b c out₁ out₂ n m r out₁′ out₂′ e) k f in
-      (p .0, q .0, p .1 ∙ (collides x d a b c out₁ out₂ n m r out₁′ out₂′ e .same-hash ∙ sym (q .1)));
-}
+demand-3 = collides

@@ -17,6 +17,12 @@ use Rattle.tree.specs.Edition.{hash, width}
 use Rattle.attestation.specs.Verify.{Verified}
 use Rattle.extractor.specs.Extract.{Extracted}
 
+-- Anyone can check that two records have the same hash by `hash`: it accepts each, and what it leaves of the one, in 32 octets, it
+-- leaves of the other.
+abbrev pub Hash-alike : Octets → Octets → Type 0
+Hash-alike r s = (h k : Octets) → length h ≡ 32 → length k ≡ 32
+    → (t u : Answer) (h′ k′ : Octets) → Hashed r h t h′ → Hashed s k u k′ → (t ≡ Done 85) × (u ≡ Done 85) × (h′ ≡ k′)
+
 -- What `extract` answered for the key x and the attestations a and b, r, and left in its two buffers. The records are those that
 -- step 5 of the verdict rebuilds of a and of b, the same number of levels below the root.
 pub record Collides (x a b : Octets) (r : Answer) (out₁′ out₂′ : Octets) : Type 0 where
@@ -26,29 +32,15 @@ pub record Collides (x a b : Octets) (r : Answer) (out₁′ out₂′ : Octets)
   pub second-rebuilt : Rebuilt hash x (shown width b) passed out₂′
   pub differ : out₁′ ≡ out₂′ → ⊥
   pub same-hash : hash out₁′ ≡ hash out₂′
+  pub hash-alike : Hash-alike out₁′ out₂′
 
 -- the verdicts on a and b contradict each other
 abbrev pub Contradict : Octets → Octets → Octets → Octets → Type 0
 Contradict x d a b = (Verified x d a Present × Verified x d b Absent) ⊎ (Verified x d a Absent × Verified x d b Present)
 
--- Two buffers of 85 octets are lent.
-abbrev pub Evidence : Type 0
-Evidence =
+-- Two buffers of 85 octets are lent; nothing is asked of the digest d.
+abbrev pub Demand-3 : Type 0
+Demand-3 =
     (x d a b : Octets) → Contradict x d a b
     → (out₁ out₂ : Octets) → length out₁ ≡ 85 → length out₂ ≡ 85
     → (r : Answer) (out₁′ out₂′ : Octets) → Extracted x d a b out₁ out₂ r out₁′ out₂′ → Collides x a b r out₁′ out₂′
-
--- Anyone can check such a pair by `hash`: it accepts each of the two buffers, and what it leaves of the one, it leaves of the other.
-abbrev pub Checkable : Type 0
-Checkable =
-    (x d a b : Octets) → Contradict x d a b
-    → (out₁ out₂ : Octets) → length out₁ ≡ 85 → length out₂ ≡ 85
-    → (r : Answer) (out₁′ out₂′ : Octets) → Extracted x d a b out₁ out₂ r out₁′ out₂′
-    → (h₁ h₂ : Octets) → length h₁ ≡ 32 → length h₂ ≡ 32
-    → (s t : Answer) (h₁′ h₂′ : Octets) → Hashed out₁′ h₁ s h₁′ → Hashed out₂′ h₂ t h₂′
-    → (s ≡ Done 85) × (t ≡ Done 85) × (h₁′ ≡ h₂′)
-
--- nothing is asked of the digest d
-pub record Demand-3 : Type 0 where
-  pub evidence : Evidence
-  pub checkable : Checkable

@@ -73,7 +73,7 @@ const SIZES: [[usize; 4]; 12] = [
     [20, 32, 85, 86],
 ];
 
-/// Readings 14: all four sizes before either attestation.
+/// All four sizes before either attestation.
 fn sizes(comparison: &mut Comparison, d: &[u8]) {
     let (x, d) = (key("3-4").repeat(2), d.repeat(2));
     for [x_len, d_len, first_room, second_room] in SIZES {

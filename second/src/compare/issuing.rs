@@ -78,7 +78,7 @@ fn our_attestation(x: &Key, list: &[u8]) -> Vec<u8> {
     octets
 }
 
-/// Readings 9: an absent key's attestation is that of its foot's key.
+/// An absent key's attestation is that of its foot's key.
 fn same_as_foot(comparison: &mut Comparison, x: &Key, list: &[u8], attestation: &[u8]) {
     let expected = Expected::Accepted(attestation.len() as u32, attestation.to_vec());
     let foot = attestation.get(1..21).unwrap_or(x);

@@ -57,7 +57,7 @@ fn on_list_f(comparison: &mut Comparison) {
     judge(comparison, "9 before 10", &key("2-7"), &[7; 32], &of_1_1(), Refused(9, 1));
 }
 
-/// Readings 11.
+/// Where the form breaks.
 fn forms(comparison: &mut Comparison) {
     let k_33 = [vec![33], vec![0; 660], vec![0, 0, 32], vec![0; 32]].concat();
     let examples: Vec<(&str, Vec<u8>, u32)> = vec![
@@ -94,7 +94,7 @@ fn with(mut octets: Vec<u8>, at: usize, octet: u8) -> Vec<u8> {
     octets
 }
 
-/// Readings 10 and 12, for x = 3-4 and a digest of no list.
+/// The order of the refusals, for x = 3-4 and a digest of no list.
 fn orders(comparison: &mut Comparison) {
     let (x, d) = (key("3-4"), [7; 32]);
     let no_labels = |codes: &[&str]| {
