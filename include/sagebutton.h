@@ -2,13 +2,19 @@
  *
  * Every function answers for every input; none asks the caller to have checked anything. The result is one number:
  *   bits  0 to 31   what an accepted call answers, or the place of a refusal
- *   bits 32 to 47   0
+ *   bits 32 to 47   0; of sagebutton_drill 1 if no number was found, and then all other bits are 0
  *   bits 48 to 63   the number of the refusal, 0 if the call was accepted
  * A refusal writes nothing. An accepted call writes to the front of its output; octets beyond that stay as they were.
  *
  * A key is any 20 octets; a code's key is its 1 to 20 ASCII octets, then zeros. sagebutton_attest and sagebutton_verify do not ask
  * whether a key is a code's: one made of `04-Mar` comes out absent. 60,000 octets hold the keys of every list that is accepted,
  * and 586 every attestation that is issued.
+ *
+ * Where there is a profile it comes first: SAGEBUTTON_FULL, in which a node's label is the SHA-256 of its record; or
+ * SAGEBUTTON_DRILL, in which it is the first 2 octets of that and then 30 zeros, so that contradictions can be made and
+ * watched. The drill protects nobody. Any other number is refused with 17 at 0, before all other refusals. A digest and an
+ * attestation do not say which profile they are of: use one number throughout. A verdict in the wrong one is as a rule refused
+ * with 10.
  *
  * What the caller must keep, since C cannot say it: each pointer is valid for its length and is not null, also for a length
  * of 0; an output overlaps no other argument; no length exceeds PTRDIFF_MAX; and no other thread writes to the arguments
@@ -40,15 +46,21 @@ uint64_t sagebutton_hash(const uint8_t *msg, size_t msg_len, uint8_t *out, size_
  * 5, not above the code before; last 14 at the count plus 3, octets left over. */
 uint64_t sagebutton_read_list(const uint8_t *text, size_t text_len, uint8_t *out, size_t out_len);
 
+/* The profiles. */
+#define SAGEBUTTON_FULL 0u
+#define SAGEBUTTON_DRILL 1u
+
 /* The digest of a list of keys, 20 octets each and strictly ascending, into exactly 32 octets. Answers the number of keys.
- * Refuses, in this order: 1 at 0, out_len not 32; 2 at 0, no keys; 3 at 0, not a multiple of 20 octets; 4 at 0, over 3,000
- * keys; 5 at the index, counted from 0, of the first key not above the one before. */
-uint64_t sagebutton_digest(const uint8_t *keys, size_t keys_len, uint8_t *out, size_t out_len);
+ * Refuses, in this order: 17 at 0, an unknown profile; 1 at 0, out_len not 32; 2 at 0, no keys; 3 at 0, not a multiple of 20
+ * octets; 4 at 0, over 3,000 keys; 5 at the index, counted from 0, of the first key not above the one before. */
+uint64_t sagebutton_digest(uint32_t profile, const uint8_t *keys, size_t keys_len, uint8_t *out, size_t out_len);
 
 /* The attestation for a key, listed or not, under a list of keys, 20 octets each and strictly ascending, into the front of out.
  * Answers its length.
- * Refuses, in this order: 1 at 0, key_len not 20; 2, 3, 4 and 5 as sagebutton_digest; 6 at 0, out_len under the length. */
-uint64_t sagebutton_attest(const uint8_t *key, size_t key_len, const uint8_t *keys, size_t keys_len, uint8_t *out, size_t out_len);
+ * Refuses, in this order: 17 at 0, an unknown profile; 1 at 0, key_len not 20; 2, 3, 4 and 5 as sagebutton_digest; 6 at 0,
+ * out_len under the length. */
+uint64_t sagebutton_attest(uint32_t profile, const uint8_t *key, size_t key_len, const uint8_t *keys, size_t keys_len,
+                           uint8_t *out, size_t out_len);
 
 /* What an accepted attestation shows of the key: that it is listed, or that it is not. README.md, "What is assumed", says on what
  * that rests. */
@@ -58,21 +70,37 @@ uint64_t sagebutton_attest(const uint8_t *key, size_t key_len, const uint8_t *ke
 /* The verdict on any octets, whoever made them, as an attestation for a key under a digest: SAGEBUTTON_PRESENT or
  * SAGEBUTTON_ABSENT, if it is not refused. Look at sagebutton_refusal first, or compare the whole result: a refusal says nothing
  * of the key.
- * Refuses, in this order: 1 at 0, key_len not 20 or digest_len not 32; 7 at the offset of the first octet that cannot stand
- * there, or at att_len if the attestation ends early; 8 at 0, a child at the foot where the key would be; 9 at the level, counted
- * from the foot's 0, where the key itself stands above the foot or a key equals the one below it; 10 at 0, the digest differs. */
-uint64_t sagebutton_verify(const uint8_t *key, size_t key_len, const uint8_t *digest, size_t digest_len,
+ * Refuses, in this order: 17 at 0, an unknown profile; 1 at 0, key_len not 20 or digest_len not 32; 7 at the offset of the first
+ * octet that cannot stand there, or at att_len if the attestation ends early; 8 at 0, a child at the foot where the key would
+ * be; 9 at the level, counted from the foot's 0, where the key itself stands above the foot or a key equals the one below it;
+ * 10 at 0, the digest differs. */
+uint64_t sagebutton_verify(uint32_t profile, const uint8_t *key, size_t key_len, const uint8_t *digest, size_t digest_len,
                            const uint8_t *att, size_t att_len);
 
 /* From two attestations for one key under one digest that contradict each other, one accepted as present and the other as absent:
- * two different node records with the same SHA-256, the first attestation's into out1, the second's into out2, exactly 85 octets
+ * two different node records with the same label, the first attestation's into out1, the second's into out2, exactly 85 octets
  * each. Answers the number of levels, from the root down, on which the two still agree. docs/EVIDENCE.md says how anyone can check
  * such a pair.
- * Refuses, in this order: 1 at 0, key_len not 20, digest_len not 32, out1_len or out2_len not 85; the number with which
- * sagebutton_verify refuses the first attestation, at 1; that of the second, at 2; 11 at 0, the same verdict on both. */
-uint64_t sagebutton_extract(const uint8_t *key, size_t key_len, const uint8_t *digest, size_t digest_len,
+ * Refuses, in this order: 17 at 0, an unknown profile; 1 at 0, key_len not 20, digest_len not 32, out1_len or out2_len not 85;
+ * the number with which sagebutton_verify refuses the first attestation, at 1; that of the second, at 2; 11 at 0, the same
+ * verdict on both. */
+uint64_t sagebutton_extract(uint32_t profile, const uint8_t *key, size_t key_len, const uint8_t *digest, size_t digest_len,
                             const uint8_t *first, size_t first_len, const uint8_t *second, size_t second_len,
                             uint8_t *out1, size_t out1_len, uint8_t *out2, size_t out2_len);
+
+/* What sagebutton_drill answers if it finds no number; both outputs then stay as they were. Compare the whole result with this
+ * before you take its value: 0 is a number that can be found. */
+#define SAGEBUTTON_NONE (UINT64_C(1) << 32)
+
+/* The drill, from the text of a list with one code: tries keys, as big-endian numbers from 0 upward, at most bound of them, the
+ * listed key itself neither tried nor counted, for the first whose one-node tree has the listed key's digest under
+ * SAGEBUTTON_DRILL. Then sagebutton_extract is given two attestations for that key, its absence under the list and its presence
+ * under the other tree, and writes their node records, in that order, exactly 85 octets each. Answers the number, or
+ * SAGEBUTTON_NONE. docs/DRILL.md says what to make of it.
+ * Refuses, in this order: 1 at 0, out1_len or out2_len not 85; what sagebutton_read_list refuses the text with, with room for every
+ * list; 16 at 2, more than one code. It takes some 64,000 octets of stack. */
+uint64_t sagebutton_drill(const uint8_t *text, size_t text_len, uint32_t bound,
+                          uint8_t *out1, size_t out1_len, uint8_t *out2, size_t out2_len);
 
 #ifdef __cplusplus
 }

@@ -1,11 +1,25 @@
 //! The C face of our library, and its functions as safe ones that answer like the ordinary
 //! ones. A job of several inputs takes them one after the other, those of fixed size first.
 
+use super::ordinary::contradiction;
+
+pub const FULL: u32 = 0;
+
+/// Labels of 2 octets, under which there are contradictions.
+pub const DRILL: u32 = 1;
+
 #[link(name = "sagebutton", kind = "static")]
 extern "C" {
     pub fn sagebutton_hash(msg: *const u8, msg_len: usize, out: *mut u8, out_len: usize) -> u64;
-    pub fn sagebutton_digest(keys: *const u8, keys_len: usize, out: *mut u8, out_len: usize) -> u64;
+    pub fn sagebutton_digest(
+        profile: u32,
+        keys: *const u8,
+        keys_len: usize,
+        out: *mut u8,
+        out_len: usize,
+    ) -> u64;
     pub fn sagebutton_attest(
+        profile: u32,
         key: *const u8,
         key_len: usize,
         keys: *const u8,
@@ -14,6 +28,7 @@ extern "C" {
         out_len: usize,
     ) -> u64;
     pub fn sagebutton_verify(
+        profile: u32,
         key: *const u8,
         key_len: usize,
         digest: *const u8,
@@ -22,6 +37,7 @@ extern "C" {
         att_len: usize,
     ) -> u64;
     pub fn sagebutton_extract(
+        profile: u32,
         key: *const u8,
         key_len: usize,
         digest: *const u8,
@@ -30,6 +46,15 @@ extern "C" {
         first_len: usize,
         second: *const u8,
         second_len: usize,
+        out1: *mut u8,
+        out1_len: usize,
+        out2: *mut u8,
+        out2_len: usize,
+    ) -> u64;
+    pub fn sagebutton_drill(
+        text: *const u8,
+        text_len: usize,
+        bound: u32,
         out1: *mut u8,
         out1_len: usize,
         out2: *mut u8,
@@ -44,7 +69,7 @@ pub fn hash(message: &[u8], output: &mut [u8]) -> Option<usize> {
 
 pub fn digest(keys: &[u8], output: &mut [u8]) -> Option<usize> {
     // As above.
-    accepted(unsafe { sagebutton_digest(keys.as_ptr(), keys.len(), output.as_mut_ptr(), output.len()) })
+    accepted(unsafe { sagebutton_digest(FULL, keys.as_ptr(), keys.len(), output.as_mut_ptr(), output.len()) })
 }
 
 /// The input is a key and then the key list.
@@ -52,7 +77,9 @@ pub fn attest(input: &[u8], output: &mut [u8]) -> Option<usize> {
     let (key, keys) = input.split_at(20);
     let (out, room) = (output.as_mut_ptr(), output.len());
     // As above.
-    accepted(unsafe { sagebutton_attest(key.as_ptr(), key.len(), keys.as_ptr(), keys.len(), out, room) })
+    accepted(unsafe {
+        sagebutton_attest(FULL, key.as_ptr(), key.len(), keys.as_ptr(), keys.len(), out, room)
+    })
 }
 
 /// The input is a key, a digest and then the attestation. Present is 1, Absent is 0.
@@ -61,10 +88,46 @@ pub fn verify(input: &[u8], _: &mut [u8]) -> Option<usize> {
     let (digest, att) = rest.split_at(32);
     let (d, d_len) = (digest.as_ptr(), digest.len());
     // As above.
-    accepted(unsafe { sagebutton_verify(key.as_ptr(), key.len(), d, d_len, att.as_ptr(), att.len()) })
+    accepted(unsafe { sagebutton_verify(FULL, key.as_ptr(), key.len(), d, d_len, att.as_ptr(), att.len()) })
 }
 
-/// Bits 48 to 63 are the refusal number, 0 for accepted; bits 0 to 31 the value.
+/// The input is a key, a digest, the first attestation's length in 2 octets, and the two
+/// attestations, in the drill; the output is the two records.
+pub fn extract(input: &[u8], output: &mut [u8]) -> Option<usize> {
+    let (key, digest, first, second) = contradiction::parts(input);
+    let (out1, out2) = output.split_at_mut(85);
+    // As above.
+    accepted(unsafe {
+        sagebutton_extract(
+            DRILL,
+            key.as_ptr(),
+            key.len(),
+            digest.as_ptr(),
+            digest.len(),
+            first.as_ptr(),
+            first.len(),
+            second.as_ptr(),
+            second.len(),
+            out1.as_mut_ptr(),
+            out1.len(),
+            out2.as_mut_ptr(),
+            out2.len(),
+        )
+    })
+}
+
+/// The input is a list's text; the output is the two records.
+pub fn drill(text: &[u8], output: &mut [u8]) -> Option<usize> {
+    let (out1, out2) = output.split_at_mut(85);
+    let (first, second) = (out1.as_mut_ptr(), out2.as_mut_ptr());
+    // As above.
+    accepted(unsafe {
+        sagebutton_drill(text.as_ptr(), text.len(), 1 << 20, first, out1.len(), second, out2.len())
+    })
+}
+
+/// Bits 48 to 63 are the refusal number, 0 for accepted; bit 32 says that the drill found
+/// none; bits 0 to 31 are the value.
 fn accepted(packed: u64) -> Option<usize> {
-    (packed >> 48 == 0).then_some(packed as u32 as usize)
+    (packed >> 32 == 0).then_some(packed as u32 as usize)
 }

@@ -6,7 +6,7 @@ mod face;
 mod ordinary;
 mod stack;
 
-use ordinary::{attestation, sha256, tree, verdict};
+use ordinary::{attestation, contradiction, drill, sha256, tree, verdict};
 use std::hint::black_box;
 use std::process::ExitCode;
 use std::time::Instant;
@@ -28,6 +28,8 @@ const HASH: Sides<Job> = [face::hash, sha256::hash::<1>, sha256::hash::<8>];
 const DIGEST: Sides<Job> = [face::digest, tree::digest::<1>, tree::digest::<8>];
 const ATTEST: Sides<Job> = [face::attest, attestation::attest::<1>, attestation::attest::<8>];
 const VERIFY: Sides<Job> = [face::verify, verdict::verify::<1>, verdict::verify::<8>];
+const EXTRACT: Sides<Job> = [face::extract, contradiction::extract::<1>, contradiction::extract::<8>];
+const DRILL: Sides<Job> = [face::drill, drill::drill::<1>, drill::drill::<8>];
 
 /// Odd, so that there is a middle one.
 const LAPS: usize = 151;
@@ -47,6 +49,8 @@ fn cases() -> Vec<Case> {
         case("digest of 3,000 keys", DIGEST, keys, 32),
         case("attestation over 3,000 keys", ATTEST, attested, 586),
         case("verification of a 12-level attestation", VERIFY, verified, 0),
+        case("extraction from 32 levels, at the foot", EXTRACT, contradiction::at_the_foot(), 170),
+        case("drill with 3-4, 16,402 numbers", DRILL, b"codes\n1\n3-4\n".to_vec(), 170),
     ]
 }
 

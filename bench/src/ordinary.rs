@@ -2,6 +2,8 @@
 //! without intrinsics.
 
 pub mod attestation;
+pub mod contradiction;
+pub mod drill;
 pub mod sha256;
 pub mod tree;
 pub mod verdict;

@@ -1,15 +1,18 @@
 //! How much stack our functions take: the stack below a call is painted, and after the call
 //! the deepest octet that is no longer paint is looked for.
 
-use super::face::{sagebutton_attest, sagebutton_digest, sagebutton_extract, sagebutton_verify};
-use super::ordinary::verdict::last_label;
+use super::face::{
+    sagebutton_attest, sagebutton_digest, sagebutton_drill, sagebutton_extract, sagebutton_verify, DRILL,
+    FULL,
+};
+use super::ordinary::{contradiction, verdict::last_label};
 use std::arch::asm;
 use std::process::ExitCode;
 use std::thread;
 
-/// A function of the C face, its arguments, and the number that it refuses with, or 0. The
-/// first six arguments are put in registers, the next six on the stack above the call.
-type Call = (*const (), [usize; 12], u64);
+/// A function of the C face and its arguments, with which it accepts. The first six are put
+/// in registers, the next eight on the stack above the call.
+type Call = (*const (), [usize; 14]);
 
 const PAINTED: usize = 256 * 1024;
 
@@ -25,7 +28,7 @@ pub fn run(keys: &[u8]) -> ExitCode {
 
 fn table(keys: &[u8]) -> ExitCode {
     // Only its return address: the paint begins where the call does.
-    if taken(call(nothing as *const (), &[], 0)) != 8 {
+    if taken(call(nothing as *const (), &[], &[])) != 8 {
         println!("the measure is off");
         return ExitCode::FAILURE;
     }
@@ -34,7 +37,8 @@ fn table(keys: &[u8]) -> ExitCode {
     println!("| digest of 3,000 keys | {} |", of_digest(keys));
     println!("| attestation over 3,000 keys | {} |", of_attest(keys));
     println!("| verification of 32 levels, 1,731 octets | {} |", of_verify());
-    println!("| extraction from two such, no contradiction | {} |", of_extract());
+    println!("| extraction from 32 levels, at the foot | {} |", of_extract());
+    println!("| drill with 3-4 | {} |", of_drill());
     ExitCode::SUCCESS
 }
 
@@ -44,30 +48,43 @@ extern "C" fn nothing() -> u64 {
 
 fn of_digest(keys: &[u8]) -> usize {
     let mut output = [0; 32];
-    taken(call(sagebutton_digest as *const (), &[lent(keys), lent_output(&mut output)], 0))
+    taken(call(sagebutton_digest as *const (), &[FULL], &[lent(keys), lent_output(&mut output)]))
 }
 
 /// The most over keys of all levels, the deepest among them.
 fn of_attest(keys: &[u8]) -> usize {
     let mut output = [0; 586];
     let out = lent_output(&mut output);
-    let of_key = |key: &[u8]| taken(call(sagebutton_attest as *const (), &[lent(key), lent(keys), out], 0));
+    let of_key =
+        |key: &[u8]| taken(call(sagebutton_attest as *const (), &[FULL], &[lent(key), lent(keys), out]));
     keys.chunks_exact(20).step_by(100).chain([&keys[keys.len() - 20..]]).map(of_key).max().expect("a key")
 }
 
 /// An attestation with every label there, accepted.
 fn of_verify() -> usize {
     let (x, digest, octets) = longest();
-    taken(call(sagebutton_verify as *const (), &[lent(&x), lent(&digest), lent(&octets)], 0))
+    taken(call(sagebutton_verify as *const (), &[FULL], &[lent(&x), lent(&digest), lent(&octets)]))
 }
 
-/// Twice such a one, accepted both times. No two are known that lead extract further.
+/// A contradiction in the drill, so that the walk goes down to the foot.
 fn of_extract() -> usize {
-    let ((x, digest, first), (_, _, second)) = (longest(), longest());
+    let input = contradiction::at_the_foot();
+    let (x, digest, first, second) = contradiction::parts(&input);
     let [mut out1, mut out2] = [[0; 85]; 2];
-    let inputs = [lent(&x), lent(&digest), lent(&first), lent(&second)];
-    let arguments = [&inputs[..], &[lent_output(&mut out1), lent_output(&mut out2)]].concat();
-    taken(call(sagebutton_extract as *const (), &arguments, 11))
+    let outputs = [lent_output(&mut out1), lent_output(&mut out2)];
+    let lent = [lent(x), lent(digest), lent(first), lent(second), outputs[0], outputs[1]];
+    taken(call(sagebutton_extract as *const (), &[DRILL], &lent))
+}
+
+/// The bound stands between the text and the outputs.
+fn of_drill() -> usize {
+    let [mut out1, mut out2] = [[0; 85]; 2];
+    let [text, len] = lent(b"codes\n1\n3-4\n");
+    let outputs = [lent_output(&mut out1), lent_output(&mut out2)];
+    let mut arguments = [0; 14];
+    arguments[..3].copy_from_slice(&[text, len, 1 << 20]);
+    arguments[3..7].copy_from_slice(&outputs.concat());
+    taken((sagebutton_drill as *const (), arguments))
 }
 
 /// A key, a digest, and an attestation that is accepted for them.
@@ -75,15 +92,17 @@ fn longest() -> ([u8; 20], [u8; 32], Vec<u8>) {
     let keys: Vec<u8> = (1..=32).flat_map(|octet| [octet; 20]).collect();
     let labels: Vec<Vec<u8>> = (0..33).map(|octet| [&[1], &[octet; 32][..]].concat()).collect();
     let octets = [&[32][..], &keys, &labels[..2].concat(), &[31], &labels[2..].concat()].concat();
-    let digest = last_label::<1>(&keys[..20], &octets).expect("a sound form");
+    let digest = last_label::<1, 32>(&keys[..20], &octets).expect("a sound form");
     assert_eq!(octets.len(), 1_731);
     ([1; 20], digest, octets)
 }
 
-fn call(function: *const (), lent: &[[usize; 2]], refusal: u64) -> Call {
-    let mut arguments = [0; 12];
-    arguments[..2 * lent.len()].copy_from_slice(&lent.concat());
-    (function, arguments, refusal)
+/// A call with the profile first.
+fn call(function: *const (), profile: &[u32], lent: &[[usize; 2]]) -> Call {
+    let mut arguments = [0; 14];
+    let given: Vec<usize> = profile.iter().map(|number| *number as usize).chain(lent.concat()).collect();
+    arguments[..given.len()].copy_from_slice(&given);
+    (function, arguments)
 }
 
 fn lent(octets: &[u8]) -> [usize; 2] {
@@ -106,20 +125,20 @@ fn taken(call: Call) -> usize {
 
 /// Octets from the call's return address down to the deepest octet written.
 #[inline(never)]
-unsafe fn below((function, arguments, refusal): Call, paint: u8) -> usize {
+unsafe fn below((function, arguments): Call, paint: u8) -> usize {
     let [a, b, c, d, e, f, above @ ..] = arguments;
     let (top, answer): (*mut u8, u64);
-    asm!("lea {}, [rsp - 48]", out(reg) top);
+    asm!("lea {}, [rsp - 64]", out(reg) top);
     for depth in 1..=PAINTED {
         top.sub(depth).write_volatile(paint);
     }
     asm!(
-        "push qword ptr [{0} + 40]", "push qword ptr [{0} + 32]", "push qword ptr [{0} + 24]",
-        "push qword ptr [{0} + 16]", "push qword ptr [{0} + 8]", "push qword ptr [{0}]", "call {1}",
-        "add rsp, 48", in(reg) above.as_ptr(), in(reg) function, in("rdi") a, in("rsi") b, in("rdx") c,
+        "push qword ptr [{0} + 56]", "push qword ptr [{0} + 48]", "push qword ptr [{0} + 40]",
+        "push qword ptr [{0} + 32]", "push qword ptr [{0} + 24]", "push qword ptr [{0} + 16]",
+        "push qword ptr [{0} + 8]", "push qword ptr [{0}]", "call {1}", "add rsp, 64", in(reg) above.as_ptr(), in(reg) function, in("rdi") a, in("rsi") b, in("rdx") c,
         in("rcx") d, in("r8") e, in("r9") f, lateout("rax") answer, clobber_abi("C"),
     );
     let deepest = (1..=PAINTED).rev().find(|depth| top.sub(*depth).read_volatile() != paint);
-    assert_eq!(answer >> 48, refusal);
+    assert_eq!(answer >> 32, 0);
     deepest.unwrap_or(0)
 }

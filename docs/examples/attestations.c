@@ -8,7 +8,7 @@ static const char list[] = "codes\n5\n1-1\n2-7\n3-4\n3-40\nA-2\n";
 /* what a box that has only the digest makes of an attestation */
 static void judge(const char *what, const uint8_t key[20], const uint8_t digest[32], const uint8_t *att, size_t len)
 {
-    uint64_t verdict = sagebutton_verify(key, 20, digest, 32, att, len);
+    uint64_t verdict = sagebutton_verify(SAGEBUTTON_FULL, key, 20, digest, 32, att, len);
     if (sagebutton_refusal(verdict))
         printf("%s: refused %u %u\n", what, sagebutton_refusal(verdict), (unsigned)sagebutton_value(verdict));
     else
@@ -23,13 +23,13 @@ int main(void)
 
     uint64_t read = sagebutton_read_list((const uint8_t *)list, sizeof list - 1, keys, sizeof keys);
     size_t keys_len = 20 * (size_t)sagebutton_value(read);
-    if (sagebutton_refusal(read) || sagebutton_refusal(sagebutton_digest(keys, keys_len, digest, 32)))
+    if (sagebutton_refusal(read) || sagebutton_refusal(sagebutton_digest(SAGEBUTTON_FULL, keys, keys_len, digest, 32)))
         return 1;
 
     for (int i = 0; i < 2; i++) {
         memset(key, 0, sizeof key);
         memcpy(key, codes[i], strlen(codes[i])); /* a code has at most 20 octets */
-        uint64_t issued = sagebutton_attest(key, 20, keys, keys_len, att, sizeof att);
+        uint64_t issued = sagebutton_attest(SAGEBUTTON_FULL, key, 20, keys, keys_len, att, sizeof att);
         if (sagebutton_refusal(issued))
             return 1;
         size_t len = sagebutton_value(issued);

@@ -18,7 +18,7 @@ int main(void)
         return 1;
     }
     /* what was read is always accepted */
-    sagebutton_digest(keys, 20 * (size_t)sagebutton_value(read), digest, sizeof digest);
+    sagebutton_digest(SAGEBUTTON_FULL, keys, 20 * (size_t)sagebutton_value(read), digest, sizeof digest);
     printf("digest %u ", (unsigned)sagebutton_value(read));
     for (int i = 0; i < 32; i++)
         printf("%02x", digest[i]);

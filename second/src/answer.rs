@@ -2,9 +2,10 @@
 
 /// An accepted call answers a value and writes these octets at the front of the lent
 /// buffer; the rest of the buffer stays. Of two lent buffers they fill one, then the other.
+/// A value is below 2^32; for the drill's none the face has 2^32 itself.
 #[derive(Clone, Debug, PartialEq, Eq)]
 pub struct Accepted {
-    pub value: u32,
+    pub value: u64,
     pub written: Vec<u8>,
 }
 
@@ -19,7 +20,7 @@ pub struct Refusal {
 
 pub type Outcome = Result<Accepted, Refusal>;
 
-/// Document 01, "Numbers a caller can meet", as far as built.
+/// Document 01, "Numbers a caller can meet", and what change request (vi) adds.
 pub const SIZE: u16 = 1;
 pub const NO_KEYS: u16 = 2;
 pub const NOT_A_MULTIPLE: u16 = 3;
@@ -34,6 +35,8 @@ pub const NO_CONTRADICTION: u16 = 11;
 pub const FIRST_OR_SECOND_LINE: u16 = 12;
 pub const NOT_A_CODE: u16 = 13;
 pub const LINES_AND_COUNT: u16 = 14;
+pub const MORE_THAN_ONE_CODE: u16 = 16;
+pub const UNKNOWN_PROFILE: u16 = 17;
 
 pub fn refuse(number: u16, place: usize, rule: &'static str) -> Refusal {
     let place = place as u32;

@@ -31,7 +31,7 @@ pub fn attest(hash: LabelFunction, key: &[u8], list: &[u8], room: usize) -> Outc
     if written.len() > room {
         return Err(refuse(OUTPUT_TOO_SHORT, 0, EXCEEDS_BUFFER));
     }
-    Ok(Accepted { value: written.len() as u32, written })
+    Ok(Accepted { value: written.len() as u64, written })
 }
 
 impl Attestation {

@@ -25,7 +25,7 @@ pub const LEFT_OVER: &str = "octets left over";
 /// lent buffer.
 pub fn read_list(text: &[u8], room: usize) -> Outcome {
     let keys = keys_of_text(text, room)?;
-    Ok(Accepted { value: keys.len() as u32, written: keys.concat() })
+    Ok(Accepted { value: keys.len() as u64, written: keys.concat() })
 }
 
 fn keys_of_text(text: &[u8], room: usize) -> Result<Vec<Key>, Refusal> {

@@ -16,7 +16,7 @@ pub fn hash(message: &[u8], room: usize) -> Outcome {
     if room != 32 {
         return Err(refuse(SIZE, 0, OUTPUT_NOT_32));
     }
-    let value = message.len() as u32;
+    let value = message.len() as u64;
     Ok(Accepted { value, written: sha256(message).to_vec() })
 }
 

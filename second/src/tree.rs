@@ -2,7 +2,7 @@
 
 use crate::answer::*;
 use crate::list::Key;
-use crate::sha256::{sha256, Label};
+use crate::sha256::Label;
 
 pub const OUTPUT_NOT_32: &str = "output not 32 octets";
 pub const EMPTY: &str = "no keys";
@@ -13,11 +13,8 @@ pub const NOT_STRICT: &str = "not strictly ascending";
 /// A node record.
 pub type Record = [u8; 85];
 
-/// From a node's record to its label.
+/// From a node's record to its label; which, the profile says.
 pub type LabelFunction = fn(&Record) -> Label;
-
-/// A node's label is the SHA-256 of its record.
-pub const SHA_256: LabelFunction = |record| sha256(record);
 
 /// An accepted digest writes its 32 octets and answers the number of keys. `room` is the
 /// length of the lent output.
@@ -27,7 +24,7 @@ pub fn digest(hash: LabelFunction, octets: &[u8], room: usize) -> Outcome {
     }
     let keys = admitted(octets)?;
     let tree = Node::root(hash, &keys).expect("an admitted list has a key");
-    Ok(Accepted { value: keys.len() as u32, written: tree.label.to_vec() })
+    Ok(Accepted { value: keys.len() as u64, written: tree.label.to_vec() })
 }
 
 /// Accepted key lists hold 1 to 3,000 keys, strictly ascending.

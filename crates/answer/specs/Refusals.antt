@@ -1,4 +1,4 @@
--- 01, "Numbers a caller can meet": each refusal's number, named once.
+-- Each refusal's number, named once: 01, "Numbers a caller can meet", and 02.
 use Prim.Native.Nat.{ℕ}
 
 -- an argument has a size it may not have
@@ -56,3 +56,11 @@ not-a-code = 13
 -- lines and count disagree, or no LF
 abbrev pub lines : ℕ
 lines = 14
+
+-- 02 (vi): more than one code for the drill
+abbrev pub more-codes : ℕ
+more-codes = 16
+
+-- 02 (vi): an unknown profile
+abbrev pub unknown-profile : ℕ
+unknown-profile = 17

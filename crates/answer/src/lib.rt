@@ -2,7 +2,7 @@
 ghost use mathlib.Core.Path.{_≡_};
 ghost use Rattle.answer.specs.Answer.{packed, verdict-packed};
 
-// 01, "Numbers a caller can meet": the refusals by name.
+// The refusals by name: 01, "Numbers a caller can meet", and 02.
 pub const SIZE: u16 = 1;
 
 pub const NO_KEYS: u16 = 2;
@@ -30,6 +30,10 @@ pub const HEAD: u16 = 12;
 pub const NOT_A_CODE: u16 = 13;
 
 pub const LINES: u16 = 14;
+
+pub const MORE_CODES: u16 = 16;
+
+pub const UNKNOWN_PROFILE: u16 = 17;
 
 // Done with what the function counts, or refused with the number and the place of document 01.
 pub enum Answer {

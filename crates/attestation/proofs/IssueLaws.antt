@@ -8,7 +8,7 @@ use native.Mathlib.Omega.{arith}
 use lib.ListN.{length, take, drop}
 use Rattle.octets.specs.Order.{Octets}
 use Rattle.attester.specs.Entry.{entries}
-use Rattle.attester.specs.Record.{Child, bit, child-octets}
+use Rattle.attester.specs.Record.{Child, Labels, bit, child-octets}
 use Rattle.attester.specs.Tree.{tree}
 use Rattle.attester.specs.Label.{label, digest}
 use Rattle.attester.specs.Path.{foot, step, foot-left, foot-right, height, keys, siblings, Sized}
@@ -18,41 +18,45 @@ use Rattle.attester.proofs.LabelLaws.{label-none, label-bit}
 use Rattle.attester.proofs.LengthLaws.{flatten-append, levels-length, levels-length-is, labels-most, render-levels}
 use Rattle.attester.proofs.TreeLaws.{inorder-of-tree}
 use Rattle.attester.proofs.DepthLaws.{depth-most}
+use Rattle.attester.proofs.SearchStepLaws.{search-keys}
 use Rattle.attester.proofs.SearchLaws.{found-low, found-sized}
 use Rattle.attester.proofs.AttestationLaws.{issued-found}
-use Rattle.sha256.proofs.Fips180Laws.{sha256-length}
-use Rattle.tree.specs.Edition.{hash, width}
+use Rattle.tree.specs.Edition.{width}
 use Rattle.tree.specs.Labels.{label-of}
 use Rattle.attestation.specs.Parts.{Keyed, middle-at, middle-key, onward-part, aside-part, child-of, path-in}
 use Rattle.attestation.proofs.PartsLaws.{path-here, path-on, onward-keyed}
 use Rattle.attestation.proofs.JoinLaws.{Joined}
 
+-- some label function, where the labels do not matter
+abbrev pub bare : Octets → Octets
+bare r = []
+
 -- The child of a part
 
-pub child-none : (s : Octets) → length s < 20 → child-of s ≡ none
+pub child-none : (H : Octets → Octets) (s : Octets) → length s < 20 → child-of H s ≡ none
 unfolding child-of entries
-child-none s h = let z : length s / 20 ≡ 0 = omega arith in rw z (label-none hash)
+child-none H s h = let z : length s / 20 ≡ 0 = omega arith in rw z (label-none H)
 
-pub child-bit : (s : Octets) → 20 ≤ length s → bit (child-of s) ≡ 1
+pub child-bit : (H : Octets → Octets) (s : Octets) → 20 ≤ length s → bit (child-of H s) ≡ 1
 unfolding child-of
-child-bit s h = label-bit hash (entries 20 (length s / 20) s) (rw (entries-length 20 (length s / 20) s) (omega arith))
+child-bit H s h = label-bit H (entries 20 (length s / 20) s) (rw (entries-length 20 (length s / 20) s) (omega arith))
 
 some-of-bit : (c : Child) → bit c ≡ 1 → c ≡ some (child-octets c)
 unfolding child-octets
 some-of-bit none h = absurd (omega arith)
 some-of-bit (some l) h = refl
 
-pub child-some : (s : Octets) → 20 ≤ length s → child-of s ≡ some (label-of hash width s)
+pub child-some : (H : Octets → Octets) (s : Octets) → 20 ≤ length s → child-of H s ≡ some (label-of H width s)
 unfolding child-of label-of digest
-child-some s h = some-of-bit (label hash (tree (entries 20 (length s / 20) s))) (child-bit s h)
+child-some H s h = some-of-bit (label H (tree (entries 20 (length s / 20) s))) (child-bit H s h)
 
-pub optional-none : (s : Octets) → length s < 20 → optional-octets (child-of s) ≡ 0 ∷ []
+pub optional-none : (H : Octets → Octets) (s : Octets) → length s < 20 → optional-octets (child-of H s) ≡ 0 ∷ []
 unfolding optional-octets
-optional-none s h = rw (child-none s h)
+optional-none H s h = rw (child-none H s h)
 
-pub optional-some : (s : Octets) → 20 ≤ length s → Joined (optional-octets (child-of s)) (1 ∷ []) (label-of hash width s)
+pub optional-some : (H : Octets → Octets) (s : Octets) → 20 ≤ length s → Joined (optional-octets (child-of H s)) (1 ∷ []) (label-of H width s)
 unfolding optional-octets
-optional-some s h = record { joined = rw (child-some s h) }
+optional-some H s h = record { joined = rw (child-some H s h) }
 
 -- The path as a whole
 
@@ -64,26 +68,31 @@ module _ (x s : Octets) (k : Keyed s) where
   positive = omega (arith, number, k .some-key)
 
   -- the path has at most 32 keys
-  pub path-low : suc (height (path-in x s)) ≤ 32
+  pub path-low : (H : Octets → Octets) → suc (height (path-in H x s)) ≤ 32
   unfolding path-in
-  path-low =
+  path-low H =
       omega (
         arith,
-        found-low hash x (issued-found hash (entries width (length s / width) s) x positive),
+        found-low H x (issued-found H (entries width (length s / width) s) x positive),
         depth-most 32 (entries width (length s / width) s) (omega (arith, number, k .few)),
       )
 
-  pub path-short : levels-length width (path-in x s) ≤ 2000
-  path-short = omega (arith, levels-length-is width (path-in x s), labels-most (path-in x s), path-low)
+  pub path-short : (H : Octets → Octets) → levels-length width (path-in H x s) ≤ 2000
+  path-short H = omega (arith, levels-length-is width (path-in H x s), labels-most (path-in H x s), path-low H)
 
-  pub path-sized : Sized width (path-in x s)
+  pub path-sized : (H : Octets → Octets) → Labels H → Sized width (path-in H x s)
   unfolding path-in
-  path-sized =
-      found-sized hash sha256-length x width (issued-found hash (entries width (length s / width) s) x positive)
+  path-sized H H-length =
+      found-sized H H-length x width (issued-found H (entries width (length s / width) s) x positive)
       (rw (inorder-of-tree (entries width (length s / width) s)) (entries-sized 20 (length s / 20) s (omega (arith, k .whole))))
 
-  pub render-room : length (render (path-in x s)) ≡ 3 + levels-length width (path-in x s)
-  render-room = render-levels width (path-in x s) path-sized
+  pub render-room : (H : Octets → Octets) → Labels H → length (render (path-in H x s)) ≡ 3 + levels-length width (path-in H x s)
+  render-room H H-length = render-levels width (path-in H x s) (path-sized H H-length)
+
+  -- the keys are the same whatever the labels
+  pub keys-alike : (H G : Octets → Octets) → keys (path-in H x s) ≡ keys (path-in G x s)
+  unfolding path-in
+  keys-alike H G = search-keys H G x (tree (entries width (length s / width) s))
 
 -- The path one level at a time, by the part `on` where the search goes on
 
@@ -91,67 +100,67 @@ module _ (x s : Octets) (k : Keyed s) (on : Octets) (e : on ≡ onward-part x s)
   pub on-keyed : 20 ≤ length on → Keyed on × (length on + 20 ≤ length s)
   on-keyed h = subst (λ (q : Octets). Keyed q × (length q + 20 ≤ length s)) (sym e) (onward-keyed s k x (omega (arith, ap length e)))
 
-  module _ (ends : length on < 20) where
-    here : path-in x s ≡ foot (middle-key s) (child-of (take (middle-at s) s)) (child-of (drop (middle-at s + 20) s))
-    here = path-here s k x (omega (arith, ap length e))
+  module _ (H : Octets → Octets) (ends : length on < 20) where
+    here : path-in H x s ≡ foot (middle-key s) (child-of H (take (middle-at s) s)) (child-of H (drop (middle-at s + 20) s))
+    here = path-here s k x H (omega (arith, ap length e))
 
     pub levels-length-here : {l r : Octets} {a b : ℕ} → l ≡ take (middle-at s) s → r ≡ drop (middle-at s + 20) s
-        → a ≡ bit (child-of l) → b ≡ bit (child-of r) → 21 + 32 * (a + b) ≡ levels-length width (path-in x s)
+        → a ≡ bit (child-of H l) → b ≡ bit (child-of H r) → 21 + 32 * (a + b) ≡ levels-length width (path-in H x s)
     unfolding levels-length
     levels-length-here el er ea eb = rw (here, ea, eb, el, er)
 
-    pub height-here : height (path-in x s) ≡ 0
+    pub height-here : height (path-in H x s) ≡ 0
     unfolding height
     height-here = rw here
 
-    pub keys-here : flatten (keys (path-in x s)) ≡ middle-key s
+    pub keys-here : flatten (keys (path-in H x s)) ≡ middle-key s
     unfolding keys flatten
     keys-here = rw here (append-nil (middle-key s))
 
     pub foot-here : {l : Octets} → l ≡ take (middle-at s) s
-        → Joined (optional-octets (foot-left (path-in x s)) ++ optional-octets (foot-right (path-in x s)))
-        (optional-octets (child-of l)) (optional-octets (child-of (drop (middle-at s + 20) s)))
+        → Joined (optional-octets (foot-left (path-in H x s)) ++ optional-octets (foot-right (path-in H x s)))
+        (optional-octets (child-of H l)) (optional-octets (child-of H (drop (middle-at s + 20) s)))
     unfolding foot-left foot-right
     foot-here el = record { joined = rw (here, el) }
 
-    pub siblings-here : flatten (map optional-octets (siblings (path-in x s))) ≡ []
+    pub siblings-here : flatten (map optional-octets (siblings (path-in H x s))) ≡ []
     unfolding siblings flatten
     siblings-here = rw here
 
-  module _ (goes-on : 20 ≤ length on) where
-    further : path-in x s ≡ step (middle-key s) (child-of (aside-part x s)) (path-in x on)
+  module _ (H : Octets → Octets) (goes-on : 20 ≤ length on) where
+    further : path-in H x s ≡ step (middle-key s) (child-of H (aside-part x s)) (path-in H x on)
     further =
-        path-on s k x (omega (arith, ap length e))
-        ∙ ap (λ (q : Octets). step (middle-key s) (child-of (aside-part x s)) (path-in x q)) (sym e)
+        path-on s k x H (omega (arith, ap length e))
+        ∙ ap (λ (q : Octets). step (middle-key s) (child-of H (aside-part x s)) (path-in H x q)) (sym e)
 
-    pub levels-length-on : {l : Octets} {a b : ℕ} → l ≡ aside-part x s → a ≡ bit (child-of l) → b ≡ levels-length width (path-in x on)
-        → 21 + 32 * a + b ≡ levels-length width (path-in x s)
+    pub levels-length-on : {l : Octets} {a b : ℕ} → l ≡ aside-part x s → a ≡ bit (child-of H l) → b ≡ levels-length width (path-in H x on)
+        → 21 + 32 * a + b ≡ levels-length width (path-in H x s)
     unfolding levels-length
     levels-length-on el ea eb = rw (further, ea, eb, el)
 
-    pub height-on : height (path-in x s) ≡ suc (height (path-in x on))
+    pub height-on : height (path-in H x s) ≡ suc (height (path-in H x on))
     unfolding height
     height-on = rw further
 
-    pub keys-on : Joined (flatten (keys (path-in x s))) (flatten (keys (path-in x on))) (middle-key s)
+    pub keys-on : Joined (flatten (keys (path-in H x s))) (flatten (keys (path-in H x on))) (middle-key s)
     unfolding keys flatten
     keys-on =
-        record { joined = rw (further, flatten-append (keys (path-in x on)) (middle-key s ∷ []), append-nil (middle-key s)) }
+        record { joined = rw (further, flatten-append (keys (path-in H x on)) (middle-key s ∷ []), append-nil (middle-key s)) }
 
-    pub foot-on : optional-octets (foot-left (path-in x s)) ++ optional-octets (foot-right (path-in x s))
-        ≡ optional-octets (foot-left (path-in x on)) ++ optional-octets (foot-right (path-in x on))
+    pub foot-on : optional-octets (foot-left (path-in H x s)) ++ optional-octets (foot-right (path-in H x s))
+        ≡ optional-octets (foot-left (path-in H x on)) ++ optional-octets (foot-right (path-in H x on))
     unfolding foot-left foot-right
     foot-on = rw further
 
-    pub siblings-on : Joined (flatten (map optional-octets (siblings (path-in x s))))
-        (flatten (map optional-octets (siblings (path-in x on)))) (optional-octets (child-of (aside-part x s)))
+    pub siblings-on : Joined (flatten (map optional-octets (siblings (path-in H x s))))
+        (flatten (map optional-octets (siblings (path-in H x on)))) (optional-octets (child-of H (aside-part x s)))
     unfolding siblings flatten
     siblings-on = record {
       joined =
           rw (
             further,
-            map-append optional-octets (siblings (path-in x on)) (child-of (aside-part x s) ∷ []),
-            flatten-append (map optional-octets (siblings (path-in x on))) (optional-octets (child-of (aside-part x s)) ∷ []),
-            append-nil (optional-octets (child-of (aside-part x s))),
+            map-append optional-octets (siblings (path-in H x on)) (child-of H (aside-part x s) ∷ []),
+            flatten-append (map optional-octets (siblings (path-in H x on))) (optional-octets (child-of H (aside-part x s)) ∷ []),
+            append-nil (optional-octets (child-of H (aside-part x s))),
           );
     }

@@ -22,7 +22,7 @@ use Rattle.attester.proofs.VerdictLaws.{judge-hidden, judge-fault, judge-other,
 use Rattle.attester.proofs.ClimbLaws.{hidden-climb, fault-climb}
 use Rattle.attester.proofs.LayoutLaws.{Climbing, climb-down}
 use Rattle.tree.specs.Labels.{one-if, flag-of}
-use Rattle.tree.specs.Edition.{hash, width}
+use Rattle.tree.specs.Edition.{width}
 use Rattle.attestation.specs.Shown.{shown, Formed, key-at, child-at, behind, left-at, right-at, count-at, place-of}
 use Rattle.attestation.specs.Verify.{verdict-of}
 use Rattle.attestation.proofs.ShownLaws.{laid, key-of, child-bit, record-is, Higher, higher}
@@ -159,30 +159,30 @@ module _ (x a k : Octets) (at : ℕ) (label : Octets) (n : length k ≡ 20) {sib
 
 -- Step 5: r is the record on level j, and the siblings that are left stand from the offset `at` on
 
-pub record Risen (x a : Octets) (j at : ℕ) (r : Octets) : Type 0 where
+pub record Risen (H : Octets → Octets) (x a : Octets) (j at : ℕ) (r : Octets) : Type 0 where
   pub reached : Path
   pub climbing : Climbing width a (shown a) j at reached
-  pub is : r ≡ root-record hash x reached
+  pub is : r ≡ root-record H x reached
 
-pub risen-start : (x a : Octets) {at : ℕ} {r : Octets} → Formed a → at ≡ suc (count-at a)
-    → r ≡ node-record (child-at a (left-at a)) (key-at a 0) (child-at a (right-at a)) → Risen x a 0 at r
+pub risen-start : (H : Octets → Octets) (x a : Octets) {at : ℕ} {r : Octets} → Formed a → at ≡ suc (count-at a)
+    → r ≡ node-record (child-at a (left-at a)) (key-at a 0) (child-at a (right-at a)) → Risen H x a 0 at r
 unfolding root-record
-risen-start x a f e g =
+risen-start H x a f e g =
     rw e record {
       reached = foot (key-at a 0) (child-at a (left-at a)) (child-at a (right-at a));
       climbing = laid a f .climbing;
       is = g;
     }
 
-module _ (x a : Octets) (j at : ℕ) (r : Octets) (c : Risen x a j at r) where
-  pub risen-end : (i : ℕ) → j + i ≡ getD a 0 0 - 1 → r ≡ root-record hash x (down i (shown a))
-  risen-end i h = c .is ∙ ap (root-record hash x) (sym (climb-down width a (shown a) j at (c .reached) (c .climbing) i h))
+module _ (H : Octets → Octets) (x a : Octets) (j at : ℕ) (r : Octets) (c : Risen H x a j at r) where
+  pub risen-end : (i : ℕ) → j + i ≡ getD a 0 0 - 1 → r ≡ root-record H x (down i (shown a))
+  risen-end i h = c .is ∙ ap (root-record H x) (sym (climb-down width a (shown a) j at (c .reached) (c .climbing) i h))
 
   module _ (h : suc j < getD a 0 0) where
     pub risen-inside : Higher a (shown a) j at (c .reached) (c .climbing) h
     risen-inside = higher a (shown a) j at (c .reached) (c .climbing) h
 
-    pub risen-turn : {k l r′ : Octets} → k ≡ key-at a (suc j) → l ≡ hash r → r′ ≡ join (side x k) k (child-at a at) l → Risen x a (suc j) (behind a at) r′
+    pub risen-turn : {k l r′ : Octets} → k ≡ key-at a (suc j) → l ≡ H r → r′ ≡ join (side x k) k (child-at a at) l → Risen H x a (suc j) (behind a at) r′
     unfolding root-record
     risen-turn e f g = record {
       reached = step (key-at a (suc j)) (child-at a at) (c .reached);
@@ -191,12 +191,12 @@ module _ (x a : Octets) (j at : ℕ) (r : Octets) (c : Risen x a j at r) where
     }
 
 -- the same where the code has raised j already
-module _ (x a : Octets) (j at : ℕ) (r : Octets) (c : Risen x a j at r) (h : j + 1 < getD a 0 0) where
-  pub risen-next : {k l r′ : Octets} {at′ : ℕ} → k ≡ key-at a (j + 1) → l ≡ hash r → r′ ≡ join (side x k) k (child-at a at) l → at′ ≡ behind a at
-      → Risen x a (j + 1) at′ r′
+module _ (H : Octets → Octets) (x a : Octets) (j at : ℕ) (r : Octets) (c : Risen H x a j at r) (h : j + 1 < getD a 0 0) where
+  pub risen-next : {k l r′ : Octets} {at′ : ℕ} → k ≡ key-at a (j + 1) → l ≡ H r → r′ ≡ join (side x k) k (child-at a at) l → at′ ≡ behind a at
+      → Risen H x a (j + 1) at′ r′
   risen-next {k} {l} {r′} {at′} e f g i =
       let one : j + 1 ≡ suc j = omega arith in
-      rw (one, i) (risen-turn x a j at r c (omega arith) (e ∙ ap (key-at a) one) f g)
+      rw (one, i) (risen-turn H x a j at r c (omega arith) (e ∙ ap (key-at a) one) f g)
 
 -- Step 6
 
@@ -210,21 +210,21 @@ foot-shown a f =
 
 -- The ends of the code
 
-module _ (x d a : Octets) {b : Bool} (eh : b ≡ hidden x (shown a)) where
-  pub judged-hidden : b ≡ true → Refused child-at-foot 0 ≡ verdict-of (judge hash x d (shown a))
+module _ (H : Octets → Octets) (x d a : Octets) {b : Bool} (eh : b ≡ hidden x (shown a)) where
+  pub judged-hidden : b ≡ true → Refused child-at-foot 0 ≡ verdict-of (judge H x d (shown a))
   unfolding verdict-of
-  judged-hidden h = ap verdict-of (sym (judge-hidden hash x d (shown a) (sym eh ∙ h)))
+  judged-hidden h = ap verdict-of (sym (judge-hidden H x d (shown a) (sym eh ∙ h)))
 
   module _ (open-foot : b ≡ false) {j : ℕ} (ej : j ≡ place-of (fault x (shown a))) where
-    pub judged-fault : 0 < j → Refused key-above j ≡ verdict-of (judge hash x d (shown a))
+    pub judged-fault : 0 < j → Refused key-above j ≡ verdict-of (judge H x d (shown a))
     unfolding verdict-of
     judged-fault h = go (fault x (shown a)) refl
       where
-        go : (o : Option ℕ) → fault x (shown a) ≡ o → Refused key-above j ≡ verdict-of (judge hash x d (shown a))
+        go : (o : Option ℕ) → fault x (shown a) ≡ o → Refused key-above j ≡ verdict-of (judge H x d (shown a))
         go none e = absurd (omega (arith, ej ∙ ap place-of e))
         go (some i) e =
             let same-place : j ≡ i = ej ∙ ap place-of e in
-            rw same-place (ap verdict-of (sym (judge-fault hash x d (shown a) (sym eh ∙ open-foot) i e)))
+            rw same-place (ap verdict-of (sym (judge-fault H x d (shown a) (sym eh ∙ open-foot) i e)))
 
     module _ (none-found : j ≤ 0) where
       faultless : fault x (shown a) ≡ none
@@ -234,23 +234,23 @@ module _ (x d a : Octets) {b : Bool} (eh : b ≡ hidden x (shown a)) where
           go none e = e
           go (some i) e = absurd (omega (arith, ej ∙ ap place-of e, fault-above x (shown a) i e))
 
-      module _ {r l : Octets} (er : r ≡ root-record hash x (down 0 (shown a))) (el : l ≡ hash r) where
-        root-is : same l d ≡ same (hash (root-record hash x (shown a))) d
+      module _ {r l : Octets} (er : r ≡ root-record H x (down 0 (shown a))) (el : l ≡ H r) where
+        root-is : same l d ≡ same (H (root-record H x (shown a))) d
         unfolding down
-        root-is = ap (λ s. same s d) (el ∙ ap hash er)
+        root-is = ap (λ s. same s d) (el ∙ ap H er)
 
-        pub judged-other : same l d ≡ false → Refused other-digest 0 ≡ verdict-of (judge hash x d (shown a))
+        pub judged-other : same l d ≡ false → Refused other-digest 0 ≡ verdict-of (judge H x d (shown a))
         unfolding verdict-of
-        judged-other s = ap verdict-of (sym (judge-other hash x d (shown a) (sym eh ∙ open-foot) faultless (sym root-is ∙ s)))
+        judged-other s = ap verdict-of (sym (judge-other H x d (shown a) (sym eh ∙ open-foot) faultless (sym root-is ∙ s)))
 
         module _ (s : same l d ≡ true) (f : Formed a) {k : Octets} (ek : k ≡ key-at a 0) where
-          accepted : verdict-of (judge hash x d (shown a)) ≡ verdict-of (cond (same x k) present absent)
-          accepted = ap verdict-of (judge-accepts hash x d (shown a) (sym eh ∙ open-foot) faultless (sym root-is ∙ s) ∙ rw (foot-shown a f, ek))
+          accepted : verdict-of (judge H x d (shown a)) ≡ verdict-of (cond (same x k) present absent)
+          accepted = ap verdict-of (judge-accepts H x d (shown a) (sym eh ∙ open-foot) faultless (sym root-is ∙ s) ∙ rw (foot-shown a f, ek))
 
-          pub judged-present : same x k ≡ true → Present ≡ verdict-of (judge hash x d (shown a))
+          pub judged-present : same x k ≡ true → Present ≡ verdict-of (judge H x d (shown a))
           unfolding verdict-of
           judged-present t = sym (accepted ∙ rw t)
 
-          pub judged-absent : same x k ≡ false → Absent ≡ verdict-of (judge hash x d (shown a))
+          pub judged-absent : same x k ≡ false → Absent ≡ verdict-of (judge H x d (shown a))
           unfolding verdict-of
           judged-absent t = sym (accepted ∙ rw t)

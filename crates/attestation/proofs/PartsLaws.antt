@@ -20,7 +20,6 @@ use Rattle.attester.specs.Search.{search}
 use Rattle.attester.proofs.EntryLaws.{entries-front}
 use Rattle.attester.proofs.LabelLaws.{label-none}
 use Rattle.attester.proofs.SearchStepLaws.{search-entries-hit, search-entries-end-left, search-entries-end-right, search-entries-left, search-entries-right}
-use Rattle.tree.specs.Edition.{hash}
 use Rattle.attestation.specs.Parts.{Keyed, middle-at, middle-key, by-side, onward-part, aside-part, child-of, path-in}
 
 -- the part that is told by the comparison with the middle key
@@ -60,13 +59,13 @@ module _ (s : Octets) (k : Keyed s) where
       let m : 20 * (length s / 20 / 2) + 20 ≡ suc (length s / 20 / 2) * 20 = omega arith in
       rw (n, m)
 
-  left-child : child-of (take (middle-at s) s) ≡ label hash (tree (entries 20 (length s / 20 / 2) s))
+  left-child : (H : Octets → Octets) → child-of H (take (middle-at s) s) ≡ label H (tree (entries 20 (length s / 20 / 2) s))
   unfolding child-of
-  left-child = rw left-entries
+  left-child H = rw left-entries
 
-  right-child : child-of (drop (middle-at s + 20) s) ≡ label hash (tree (entries 20 (length s / 20 - suc (length s / 20 / 2)) (drop (suc (length s / 20 / 2) * 20) s)))
+  right-child : (H : Octets → Octets) → child-of H (drop (middle-at s + 20) s) ≡ label H (tree (entries 20 (length s / 20 - suc (length s / 20 / 2)) (drop (suc (length s / 20 / 2) * 20) s)))
   unfolding child-of
-  right-child = rw right-entries
+  right-child H = rw right-entries
 
   middle-is : middle-key s ≡ take 20 (drop (length s / 20 / 2 * 20) s)
   unfolding middle-at
@@ -81,36 +80,36 @@ module _ (s : Octets) (k : Keyed s) where
     middle-side o e = rw (take-take 20 20 (drop (length s / 20 / 2 * 20) s) (le-refl _), ← middle-is) e
 
     -- the search ends where no keys are left on x's side
-    pub path-here : length (onward-part x s) < 20 → path-in x s ≡ foot (middle-key s) (child-of (take (middle-at s) s)) (child-of (drop (middle-at s + 20) s))
+    pub path-here : (H : Octets → Octets) → length (onward-part x s) < 20 → path-in H x s ≡ foot (middle-key s) (child-of H (take (middle-at s) s)) (child-of H (drop (middle-at s + 20) s))
     unfolding path-in onward-part entries
-    path-here h = go (order x (middle-key s)) refl h
+    path-here H h = go (order x (middle-key s)) refl h
       where
         go : (o : Ordering) → order x (middle-key s) ≡ o → length (by-side o (take (middle-at s) s) [] (drop (middle-at s + 20) s)) < 20
-            → search hash x (tree (entries 20 (length s / 20) s)) ≡ foot (middle-key s) (child-of (take (middle-at s) s)) (child-of (drop (middle-at s + 20) s))
+            → search H x (tree (entries 20 (length s / 20) s)) ≡ foot (middle-key s) (child-of H (take (middle-at s) s)) (child-of H (drop (middle-at s + 20) s))
         go Ordering·lt e g =
             let z : length s / 20 / 2 ≡ 0 = omega (arith, left-length) in
-            let n : label hash (tree (entries 20 (length s / 20 / 2) s)) ≡ none = rw z (label-none hash) in
-            rw (middle-is, left-child, right-child, n) (search-entries-end-left hash x 20 (length s / 20) s some-entry (middle-side Ordering·lt e) z)
+            let n : label H (tree (entries 20 (length s / 20 / 2) s)) ≡ none = rw z (label-none H) in
+            rw (middle-is, left-child H, right-child H, n) (search-entries-end-left H x 20 (length s / 20) s some-entry (middle-side Ordering·lt e) z)
         go Ordering·eq e g =
-            rw (middle-is, left-child, right-child) (search-entries-hit hash x 20 (length s / 20) s some-entry (middle-side Ordering·eq e))
+            rw (middle-is, left-child H, right-child H) (search-entries-hit H x 20 (length s / 20) s some-entry (middle-side Ordering·eq e))
         go Ordering·gt e g =
             let z : length s / 20 - suc (length s / 20 / 2) ≡ 0 = omega (arith, right-length, k .whole) in
-            let n : label hash (tree (entries 20 (length s / 20 - suc (length s / 20 / 2)) (drop (suc (length s / 20 / 2) * 20) s))) ≡ none = rw z (label-none hash) in
-            rw (middle-is, left-child, right-child, n) (search-entries-end-right hash x 20 (length s / 20) s some-entry (middle-side Ordering·gt e) z)
+            let n : label H (tree (entries 20 (length s / 20 - suc (length s / 20 / 2)) (drop (suc (length s / 20 / 2) * 20) s))) ≡ none = rw z (label-none H) in
+            rw (middle-is, left-child H, right-child H, n) (search-entries-end-right H x 20 (length s / 20) s some-entry (middle-side Ordering·gt e) z)
 
-    pub path-on : 20 ≤ length (onward-part x s) → path-in x s ≡ step (middle-key s) (child-of (aside-part x s)) (path-in x (onward-part x s))
+    pub path-on : (H : Octets → Octets) → 20 ≤ length (onward-part x s) → path-in H x s ≡ step (middle-key s) (child-of H (aside-part x s)) (path-in H x (onward-part x s))
     unfolding path-in onward-part aside-part
-    path-on h = go (order x (middle-key s)) refl h
+    path-on H h = go (order x (middle-key s)) refl h
       where
         go : (o : Ordering) → order x (middle-key s) ≡ o → 20 ≤ length (by-side o (take (middle-at s) s) [] (drop (middle-at s + 20) s))
-            → search hash x (tree (entries 20 (length s / 20) s))
-            ≡ step (middle-key s) (child-of (by-side o (drop (middle-at s + 20) s) [] (take (middle-at s) s)))
-            (path-in x (by-side o (take (middle-at s) s) [] (drop (middle-at s + 20) s)))
+            → search H x (tree (entries 20 (length s / 20) s))
+            ≡ step (middle-key s) (child-of H (by-side o (drop (middle-at s + 20) s) [] (take (middle-at s) s)))
+            (path-in H x (by-side o (take (middle-at s) s) [] (drop (middle-at s + 20) s)))
         go Ordering·lt e g =
-            rw (middle-is, right-child, left-entries) (search-entries-left hash x 20 (length s / 20) s some-entry (middle-side Ordering·lt e) (omega (arith, left-length)))
+            rw (middle-is, right-child H, left-entries) (search-entries-left H x 20 (length s / 20) s some-entry (middle-side Ordering·lt e) (omega (arith, left-length)))
         go Ordering·eq e g = absurd (omega arith)
         go Ordering·gt e g =
-            rw (middle-is, left-child, right-entries) (search-entries-right hash x 20 (length s / 20) s some-entry (middle-side Ordering·gt e) (omega (arith, right-length, k .whole)))
+            rw (middle-is, left-child H, right-entries) (search-entries-right H x 20 (length s / 20) s some-entry (middle-side Ordering·gt e) (omega (arith, right-length, k .whole)))
 
     -- what the search goes on in is a key list with fewer keys
     pub onward-keyed : 20 ≤ length (onward-part x s) → Keyed (onward-part x s) × (length (onward-part x s) + 20 ≤ length s)

@@ -1,5 +1,5 @@
 -- The search's path in the code's terms: a key list as octets, parted at its middle key.
-use mathlib.Core.List.{List, []}
+use mathlib.Core.List.{[]}
 use Prim.Native.Nat.{ℕ, _+_, _*_, _/_, _%_, _≤_, Ordering, Ordering·lt, Ordering·eq, Ordering·gt}
 use mathlib.Core.Path.{_≡_}
 use lib.ListN.{length, take, drop}
@@ -10,7 +10,7 @@ use Rattle.attester.specs.Tree.{tree}
 use Rattle.attester.specs.Label.{label}
 use Rattle.attester.specs.Path.{Path}
 use Rattle.attester.specs.Search.{search}
-use Rattle.tree.specs.Edition.{hash, width, most}
+use Rattle.tree.specs.Edition.{width, most}
 
 -- at least one key, and nothing but keys, no more than a list may have
 pub record Keyed (s : Octets) : Type 0 where
@@ -40,10 +40,10 @@ onward-part x s = by-side (order x (middle-key s)) (take (middle-at s) s) [] (dr
 unfoldable pub aside-part : Octets → Octets → Octets
 aside-part x s = by-side (order x (middle-key s)) (drop (middle-at s + 20) s) [] (take (middle-at s) s)
 
--- the child that these keys make
-unfoldable pub child-of : Octets → Child
-child-of s = label hash (tree (entries width (length s / width) s))
+-- the child that these keys make, by the label function H
+unfoldable pub child-of : (Octets → Octets) → Octets → Child
+child-of H s = label H (tree (entries width (length s / width) s))
 
--- the path of the search for x among these keys
-unfoldable pub path-in : Octets → Octets → Path
-path-in x s = search hash x (tree (entries width (length s / width) s))
+-- the path of the search for x among these keys, by the label function H
+unfoldable pub path-in : (Octets → Octets) → Octets → Octets → Path
+path-in H x s = search H x (tree (entries width (length s / width) s))

@@ -1,10 +1,12 @@
 // Issuing an attestation: the path of the search is followed down the halves of the key list, and its sections are written
-// as the calls come back, so that the foot stands first.
+// as the calls come back, so that the foot stands first. Where a contract is over any H, the labels do not matter.
 ghost use mathlib.Core.Path.{_≡_};
 ghost use mathlib.Core.List.{_++_, map, flatten};
 ghost use Prim.Native.Nat.{suc, _+_, _*_, _≤_};
 ghost use lib.ListN.{length};
 ghost use Rattle.octets.specs.Put.{Wrote};
+ghost use Rattle.octets.specs.Order.{Octets};
+ghost use Rattle.profile.specs.Profile.{label};
 ghost use Rattle.attester.specs.Record.{bit};
 ghost use Rattle.attester.specs.Path.{foot-left, foot-right, height, siblings};
 ghost use Rattle.attester.specs.Path as path;
@@ -20,7 +22,7 @@ use crate::parts::onward;
 
 // 1 if these keys make a child, 0 if there are none.
 fn child_bit(keys: &[u8]) -> usize
-    ensures { λ r. ⌜ (r ≡ bit (child-of (now (keys .entry)))) × (r ≤ 1) ⌝ }
+    ensures { λ r. ⌜ ((H : Octets → Octets) → r ≡ bit (child-of H (now (keys .entry)))) × (r ≤ 1) ⌝ }
 {
     if keys.len() < 20 { 0 } else { 1 }
 }
@@ -28,7 +30,7 @@ fn child_bit(keys: &[u8]) -> usize
 // How many octets the levels of x's path take: each a key, a count and its labels.
 pub fn levels_length(keys: &[u8], x: &[u8]) -> usize
     requires { ⌜ Keyed (now keys) ⌝ }
-    ensures { λ r. ⌜ r ≡ levels-length width (path-in (now (x .entry)) (now (keys .entry))) ⌝ }
+    ensures { λ r. ⌜ ((H : Octets → Octets) → r ≡ levels-length width (path-in H (now (x .entry)) (now (keys .entry)))) ⌝ }
 {
     let on = onward(keys, x);
     if on.len() < 20 {
@@ -40,7 +42,7 @@ pub fn levels_length(keys: &[u8], x: &[u8]) -> usize
 // How many keys stand on x's path.
 fn levels(keys: &[u8], x: &[u8]) -> usize
     requires { ⌜ Keyed (now keys) ⌝ }
-    ensures { λ r. ⌜ r ≡ suc (height (path-in (now (x .entry)) (now (keys .entry)))) ⌝ }
+    ensures { λ r. ⌜ ((H : Octets → Octets) → r ≡ suc (height (path-in H (now (x .entry)) (now (keys .entry))))) ⌝ }
 {
     let on = onward(keys, x);
     if on.len() < 20 {
@@ -51,8 +53,8 @@ fn levels(keys: &[u8], x: &[u8]) -> usize
 
 // Writes the keys of x's path from index at on, the foot's first.
 fn put_keys(out: &mut [u8], at: usize, keys: &[u8], x: &[u8]) -> usize
-    requires { ⌜ Keyed (now keys) × (at + length (flatten (path.keys (path-in (now x) (now keys)))) ≤ length (now out)) ⌝ }
-    ensures { λ r. ⌜ Wrote (now (out .entry)) at (flatten (path.keys (path-in (now (x .entry)) (now (keys .entry))))) (now (out .exit)) r ⌝ }
+    requires { ⌜ Keyed (now keys) × ((H : Octets → Octets) → at + length (flatten (path.keys (path-in H (now x) (now keys)))) ≤ length (now out)) ⌝ }
+    ensures { λ r. ⌜ ((H : Octets → Octets) → Wrote (now (out .entry)) at (flatten (path.keys (path-in H (now (x .entry)) (now (keys .entry))))) (now (out .exit)) r) ⌝ }
 {
     let on = onward(keys, x);
     if on.len() < 20 {
@@ -63,9 +65,9 @@ fn put_keys(out: &mut [u8], at: usize, keys: &[u8], x: &[u8]) -> usize
 }
 
 // Writes the optional label of the subtree of these keys from index at on.
-fn put_optional(out: &mut [u8], at: usize, keys: &[u8]) -> usize
-    requires { ⌜ at + length (optional-octets (child-of (now keys))) ≤ length (now out) ⌝ }
-    ensures { λ r. ⌜ Wrote (now (out .entry)) at (optional-octets (child-of (now (keys .entry)))) (now (out .exit)) r ⌝ }
+fn put_optional(profile: u32, out: &mut [u8], at: usize, keys: &[u8]) -> usize
+    requires { ⌜ at + length (optional-octets (child-of (label profile) (now keys))) ≤ length (now out) ⌝ }
+    ensures { λ r. ⌜ Wrote (now (out .entry)) at (optional-octets (child-of (label profile) (now (keys .entry)))) (now (out .exit)) r ⌝ }
 {
     if keys.len() < 20 {
         let none = [0u8];
@@ -73,47 +75,47 @@ fn put_optional(out: &mut [u8], at: usize, keys: &[u8]) -> usize
     }
     let one = [1u8];
     let p = octets::put(out, at, &one);
-    let label = tree::labels::label(keys);
+    let label = tree::labels::label(profile, keys);
     octets::put(out, p, &label)
 }
 
 // Writes the optional labels of the foot's two children from index at on.
-fn put_foot(out: &mut [u8], at: usize, keys: &[u8], x: &[u8]) -> usize
-    requires { ⌜ Keyed (now keys) × (at + length (optional-octets (foot-left (path-in (now x) (now keys))) ++ optional-octets (foot-right (path-in (now x) (now keys)))) ≤ length (now out)) ⌝ }
-    ensures { λ r. ⌜ Wrote (now (out .entry)) at (optional-octets (foot-left (path-in (now (x .entry)) (now (keys .entry)))) ++ optional-octets (foot-right (path-in (now (x .entry)) (now (keys .entry))))) (now (out .exit)) r ⌝ }
+fn put_foot(profile: u32, out: &mut [u8], at: usize, keys: &[u8], x: &[u8]) -> usize
+    requires { ⌜ Keyed (now keys) × (at + length (optional-octets (foot-left (path-in (label profile) (now x) (now keys))) ++ optional-octets (foot-right (path-in (label profile) (now x) (now keys)))) ≤ length (now out)) ⌝ }
+    ensures { λ r. ⌜ Wrote (now (out .entry)) at (optional-octets (foot-left (path-in (label profile) (now (x .entry)) (now (keys .entry)))) ++ optional-octets (foot-right (path-in (label profile) (now (x .entry)) (now (keys .entry))))) (now (out .exit)) r ⌝ }
 {
     let on = onward(keys, x);
     if on.len() < 20 {
-        let p = put_optional(out, at, before(keys));
-        return put_optional(out, p, after(keys));
+        let p = put_optional(profile, out, at, before(keys));
+        return put_optional(profile, out, p, after(keys));
     }
-    put_foot(out, at, on, x)
+    put_foot(profile, out, at, on, x)
 }
 
 // Writes the siblings of x's path from index at on, the lowest first.
-fn put_siblings(out: &mut [u8], at: usize, keys: &[u8], x: &[u8]) -> usize
-    requires { ⌜ Keyed (now keys) × (at + length (flatten (map optional-octets (siblings (path-in (now x) (now keys))))) ≤ length (now out)) ⌝ }
-    ensures { λ r. ⌜ Wrote (now (out .entry)) at (flatten (map optional-octets (siblings (path-in (now (x .entry)) (now (keys .entry)))))) (now (out .exit)) r ⌝ }
+fn put_siblings(profile: u32, out: &mut [u8], at: usize, keys: &[u8], x: &[u8]) -> usize
+    requires { ⌜ Keyed (now keys) × (at + length (flatten (map optional-octets (siblings (path-in (label profile) (now x) (now keys))))) ≤ length (now out)) ⌝ }
+    ensures { λ r. ⌜ Wrote (now (out .entry)) at (flatten (map optional-octets (siblings (path-in (label profile) (now (x .entry)) (now (keys .entry)))))) (now (out .exit)) r ⌝ }
 {
     let on = onward(keys, x);
     if on.len() < 20 {
         return at;
     }
-    let p = put_siblings(out, at, on, x);
-    put_optional(out, p, aside(keys, x))
+    let p = put_siblings(profile, out, at, on, x);
+    put_optional(profile, out, p, aside(keys, x))
 }
 
-// Writes the attestation for x to the front of out.
-pub fn put_attestation(out: &mut [u8], keys: &[u8], x: &[u8]) -> usize
-    requires { ⌜ Keyed (now keys) × (length (render (path-in (now x) (now keys))) ≤ length (now out)) ⌝ }
-    ensures { λ r. ⌜ Wrote (now (out .entry)) 0 (render (path-in (now (x .entry)) (now (keys .entry)))) (now (out .exit)) r ⌝ }
+// Writes the attestation in a profile for x to the front of out.
+pub fn put_attestation(profile: u32, out: &mut [u8], keys: &[u8], x: &[u8]) -> usize
+    requires { ⌜ Keyed (now keys) × (length (render (path-in (label profile) (now x) (now keys))) ≤ length (now out)) ⌝ }
+    ensures { λ r. ⌜ Wrote (now (out .entry)) 0 (render (path-in (label profile) (now (x .entry)) (now (keys .entry)))) (now (out .exit)) r ⌝ }
 {
     let k = levels(keys, x);
     let count = [k as u8];
     let a = octets::put(out, 0, &count);
     let b = put_keys(out, a, keys, x);
-    let c = put_foot(out, b, keys, x);
+    let c = put_foot(profile, out, b, keys, x);
     let above = [(k - 1) as u8];
     let d = octets::put(out, c, &above);
-    put_siblings(out, d, keys, x)
+    put_siblings(profile, out, d, keys, x)
 }

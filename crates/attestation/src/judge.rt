@@ -5,7 +5,7 @@ ghost use lib.ListN.{length, getD};
 ghost use Rattle.attester.specs.Path.{down};
 ghost use Rattle.attester.specs.Verdict.{side, join, root-record};
 ghost use Rattle.attester.specs.Verdict as verdict;
-ghost use Rattle.tree.specs.Edition.{hash};
+ghost use Rattle.profile.specs.Profile.{label};
 ghost use Rattle.attestation.specs.Shown.{Formed, shown, key-at, child-at, behind, place-of};
 ghost use Rattle.attestation.specs.Verify.{verdict-of};
 use crate::shown;
@@ -77,10 +77,10 @@ fn above(att: &[u8], at: usize, x: &[u8], k: &[u8], label: &[u8]) -> [u8; 85]
     }
 }
 
-// Step 5: the record so many levels below the root, from the foot's record and the labels up to there.
-pub fn record(att: &[u8], x: &[u8], below: usize) -> [u8; 85]
+// Step 5: the record so many levels below the root, from the foot's record and the labels, in a profile, up to there.
+pub fn record(profile: u32, att: &[u8], x: &[u8], below: usize) -> [u8; 85]
     requires { ⌜ Formed (now att) × (below < getD (now att) 0 0) ⌝ }
-    ensures { λ r. ⌜ r ≡ root-record hash (now (x .entry)) (down below (shown (now (att .entry)))) ⌝ }
+    ensures { λ r. ⌜ r ≡ root-record (label profile) (now (x .entry)) (down below (shown (now (att .entry)))) ⌝ }
 {
     let top = att[0] as usize - 1 - below;
     let mut at = shown::siblings(att);
@@ -88,17 +88,17 @@ pub fn record(att: &[u8], x: &[u8], below: usize) -> [u8; 85]
     let mut j = 0;
     while j < top {
         j += 1;
-        let label = sha256::sha256(&r);
+        let label = profile::label(profile, &r);
         r = above(att, at, x, shown::key(att, j), &label);
         at = shown::behind(att, at);
     }
     r
 }
 
-// Steps 3 to 6.
-pub fn judge(x: &[u8], d: &[u8], att: &[u8]) -> Verdict
+// Steps 3 to 6, in a profile.
+pub fn judge(profile: u32, x: &[u8], d: &[u8], att: &[u8]) -> Verdict
     requires { ⌜ Formed (now att) ⌝ }
-    ensures { λ r. ⌜ r ≡ verdict-of (verdict.judge hash (now (x .entry)) (now (d .entry)) (shown (now (att .entry)))) ⌝ }
+    ensures { λ r. ⌜ r ≡ verdict-of (verdict.judge (label profile) (now (x .entry)) (now (d .entry)) (shown (now (att .entry)))) ⌝ }
 {
     if hidden(att, x) {
         return Verdict::Refused {
@@ -113,7 +113,7 @@ pub fn judge(x: &[u8], d: &[u8], att: &[u8]) -> Verdict
             place: j as u32,
         };
     }
-    let root = sha256::sha256(&record(att, x, 0));
+    let root = profile::label(profile, &record(profile, att, x, 0));
     if octets::same(&root, d) {
         if octets::same(x, shown::key(att, 0)) {
             return Verdict::Present;

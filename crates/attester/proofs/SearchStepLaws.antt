@@ -1,16 +1,16 @@
--- One step of the search: at a node, and at the middle of a range of entries, by where x stands there.
-use mathlib.Core.Path.{_≡_, refl}
-use mathlib.Core.List.{List}
+-- One step of the search: at a node, and at the middle of a range of entries, by where x stands there; and the keys that it meets.
+use mathlib.Core.Path.{_≡_, refl, ap}
+use mathlib.Core.List.{List, [], _∷_, _++_}
 use mathlib.Core.Option.{none}
-use Prim.Native.Nat.{ℕ, suc, _-_, _*_, _/_, _<_, Ordering·lt, Ordering·eq, Ordering·gt}
+use Prim.Native.Nat.{ℕ, suc, _-_, _*_, _/_, _<_, Ordering, Ordering·lt, Ordering·eq, Ordering·gt}
 use lib.ListN.{length, take, drop}
 use Rattle.octets.specs.Order.{Octets}
 use Rattle.attester.specs.Entry.{entries}
 use Rattle.attester.specs.Tree.{Tree, leaf, node, tree}
 use Rattle.attester.specs.Label.{label}
-use Rattle.attester.specs.Path.{Path, foot, step}
+use Rattle.attester.specs.Path.{Path, foot, step, keys}
 use Rattle.attester.specs.Verdict.{side}
-use Rattle.attester.specs.Search.{onward, search}
+use Rattle.attester.specs.Search.{turn, onward, search}
 use Rattle.attester.proofs.EntryLaws.{entries-length}
 use Rattle.attester.proofs.TreeLaws.{tree-none, tree-node, tree-of-entries}
 
@@ -85,3 +85,20 @@ module _ (H : Octets → Octets) (x : Octets) (w n : ℕ) (s : Octets) (some-ent
       rw (tree-of-entries w n s some-entry)
       (search-right H x before middle behind c
       (tree-grown (entries w (n - suc (n / 2)) (drop (suc (n / 2) * w) s)) (rw (entries-length w (n - suc (n / 2)) (drop (suc (n / 2) * w) s)) g)))
+
+-- the keys that the search meets are the same whatever the labels
+pub search-keys : (H G : Octets → Octets) (x : Octets) (t : Tree) → keys (search H x t) ≡ keys (search G x t)
+unfolding search keys
+search-keys H G x leaf = refl
+search-keys H G x (node l e r) = go (side x e) l r (search-keys H G x l) (search-keys H G x r)
+  where
+    go : (o : Ordering) (l r : Tree) → keys (search H x l) ≡ keys (search G x l) → keys (search H x r) ≡ keys (search G x r)
+        → keys (turn o (onward l (step e (label H r) (search H x l)) (foot e (label H l) (label H r))) (foot e (label H l) (label H r))
+        (onward r (step e (label H l) (search H x r)) (foot e (label H l) (label H r))))
+        ≡ keys (turn o (onward l (step e (label G r) (search G x l)) (foot e (label G l) (label G r))) (foot e (label G l) (label G r))
+        (onward r (step e (label G l) (search G x r)) (foot e (label G l) (label G r))))
+    go Ordering·lt leaf r a b = refl
+    go Ordering·lt (node _ _ _) r a b = ap (λ ks. ks ++ (e ∷ [])) a
+    go Ordering·eq l r a b = refl
+    go Ordering·gt l leaf a b = refl
+    go Ordering·gt l (node _ _ _) a b = ap (λ ks. ks ++ (e ∷ [])) b

@@ -7,7 +7,8 @@ use lib.ListN.{length, take, length-append}
 use Rattle.answer.specs.declared.Answer.{Answer}
 use Rattle.answer.specs.declared.Answer.the-variants.{Done, Refused}
 use Rattle.octets.specs.Order.{Octets}
-use Rattle.tree.specs.Edition.{hash}
+use Rattle.profile.specs.Profile.{full, label}
+use Rattle.profile.proofs.ProfileLaws.{full-known}
 use Rattle.attester.specs.Label.{digest}
 use Rattle.codes.specs.Text.{Reading, accepted, refused, reading}
 use Rattle.codes.specs.Read.{Read, answer}
@@ -40,7 +41,7 @@ module _ (text keys : Octets) (big : length keys ≡ 60000) where
       rw e
 
   line-of : (n : ℕ) (ks : List Octets) (d : Octets) → Done n ≡ answer (reading (length keys) text) → reading (length keys) text ≡ accepted ks
-      → d ≡ digest hash ks → accepted-line n d ≡ digest-line text
+      → d ≡ digest (label full) ks → accepted-line n d ≡ digest-line text
   unfolding digest-line shown
   line-of n ks d a e w =
       let e′ : reading 60000 text ≡ accepted ks = rw big at e in
@@ -48,9 +49,9 @@ module _ (text keys : Octets) (big : length keys ≡ 60000) where
       rw (e′, w, c)
 
   pub line-accepted : (n : ℕ) (keys′ d : Octets) (b : Answer) (d′ : Octets) → Read text keys (Done n) keys′ → length d ≡ 32
-      → Digested (take (20 * n) keys′) d b d′ → accepted-line n d′ ≡ digest-line text
+      → Digested full (take (20 * n) keys′) d b d′ → accepted-line n d′ ≡ digest-line text
   line-accepted n keys′ d b d′ r d32 g =
-      let h = digest-of-reading text keys n keys′ r d d32 b d′ g in
+      let h = digest-of-reading full full-known text keys n keys′ r d d32 b d′ g in
       line-of n (h .keys) d′ (r .answered) (h .read) (h .written)
 
 pub accepted-length : (n : ℕ) (d : Octets) → n < 2 ^ 32 → length d ≡ 32 → length (accepted-line n d) ≤ 96

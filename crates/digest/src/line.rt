@@ -31,7 +31,7 @@ pub fn digest_line(text: &[u8], out: &mut [u8]) -> usize
             let end = 20 * (n as usize);
             let mut d = [0u8; 32];
             // what was read is always accepted
-            sagebutton::digest(&keys[..end], &mut d);
+            sagebutton::digest(profile::FULL, &keys[..end], &mut d);
             put_accepted(out, n, &d)
         }
     }

@@ -1,5 +1,4 @@
 // The program: reads a list on standard input and prints its digest, or its refusal, as one line.
-mod input;
 mod line;
 
 use input::Input;

@@ -13,7 +13,7 @@ use Rattle.attester.specs.Walk.{walk}
 use Rattle.attester.specs.Demand3.{Walked}
 use Rattle.attester.proofs.FormLaws.{form-rendered}
 use Rattle.attester.proofs.WalkLaws.{Passing, passing-next, passing-end}
-use Rattle.tree.specs.Edition.{hash, width}
+use Rattle.tree.specs.Edition.{width}
 use Rattle.attestation.specs.Shown.{Formed, shown}
 use Rattle.extractor.specs.Walk.{pair}
 
@@ -28,15 +28,15 @@ pub level-few : (a : Octets) → Formed a → getD a 0 0 ≤ 32
 level-few a f = omega (arith, count-is a f, form-rendered width a (shown a) f .low)
 
 -- up to level i the records agree, and s says whether they do on level i
-pub record Walking (x a b : Octets) (i : ℕ) (s : Bool) : Type 0 where
-  pub passing : Passing hash x (shown a) (shown b) i
-  pub told : s ≡ same (root-record hash x (down i (shown a))) (root-record hash x (down i (shown b)))
+pub record Walking (H : Octets → Octets) (x a b : Octets) (i : ℕ) (s : Bool) : Type 0 where
+  pub passing : Passing H x (shown a) (shown b) i
+  pub told : s ≡ same (root-record H x (down i (shown a))) (root-record H x (down i (shown b)))
 
-module _ (x a b : Octets) (i : ℕ) (s : Bool) (c : Walking x a b i s) where
-  pub walking-next : Walked hash x (shown a) (shown b) → s ≡ true → Passing hash x (shown a) (shown b) (i + 1)
+module _ (H : Octets → Octets) (x a b : Octets) (i : ℕ) (s : Bool) (c : Walking H x a b i s) where
+  pub walking-next : Walked H x (shown a) (shown b) → s ≡ true → Passing H x (shown a) (shown b) (i + 1)
   walking-next u e =
       let one : i + 1 ≡ suc i = omega arith in
-      rw one (passing-next hash x (shown a) (shown b) i u (c .passing) (sym (c .told) ∙ e))
+      rw one (passing-next H x (shown a) (shown b) i u (c .passing) (sym (c .told) ∙ e))
 
-  pub walking-end : s ≡ false → walk hash x (shown a) (shown b) ≡ some (pair hash x (shown a) (shown b) i)
-  walking-end e = passing-end hash x (shown a) (shown b) i (c .passing) (sym (c .told) ∙ e)
+  pub walking-end : s ≡ false → walk H x (shown a) (shown b) ≡ some (pair H x (shown a) (shown b) i)
+  walking-end e = passing-end H x (shown a) (shown b) i (c .passing) (sym (c .told) ∙ e)

@@ -1,4 +1,5 @@
-// The extractor: from two attestations whose verdicts contradict each other, two different node records with the same hash.
+// The extractor: from two attestations whose verdicts contradict each other, two different node records with the same
+// label.
 mod walk;
 
 ghost use mathlib.Core.Path.{_≡_};
@@ -39,10 +40,11 @@ fn sized(key: usize, digest: usize, out1: usize, out2: usize) -> bool
     out2 == 85
 }
 
-// Writes the two node records, the first attestation's to out1 and the second's to out2, and answers the number of levels
-// passed; or refuses, and both stay as they were: key not 20 octets, digest not 32, or a buffer not 85 (1), the first
-// attestation's refusal (place 1), the second's (place 2), the same verdict on both (11).
+// Writes the two node records, in a profile, the first attestation's to out1 and the second's to out2, and answers the number of
+// levels passed; or refuses, and both stay as they were: an unknown profile (17), key not 20 octets, digest not 32, or a buffer not
+// 85 (1), the first attestation's refusal (place 1), the second's (place 2), the same verdict on both (11).
 pub fn extract(
+    profile: u32,
     key: &[u8],
     digest: &[u8],
     first: &[u8],
@@ -50,19 +52,25 @@ pub fn extract(
     out1: &mut [u8],
     out2: &mut [u8],
 ) -> Answer
-    ensures { λ r. ⌜ Extracted (now (key .entry)) (now (digest .entry)) (now (first .entry)) (now (second .entry)) (now (out1 .entry)) (now (out2 .entry)) r (now (out1 .exit)) (now (out2 .exit)) ⌝ }
+    ensures { λ r. ⌜ Extracted profile (now (key .entry)) (now (digest .entry)) (now (first .entry)) (now (second .entry)) (now (out1 .entry)) (now (out2 .entry)) r (now (out1 .exit)) (now (out2 .exit)) ⌝ }
 {
+    if !profile::known(profile) {
+        return Answer::Refused {
+            number: answer::UNKNOWN_PROFILE,
+            place: 0,
+        };
+    }
     if !sized(key.len(), digest.len(), out1.len(), out2.len()) {
         return Answer::Refused {
             number: answer::SIZE,
             place: 0,
         };
     }
-    let a = told(1, attestation::verify(key, digest, first));
+    let a = told(1, attestation::verify(profile, key, digest, first));
     let Answer::Done(p) = a else {
         return a;
     };
-    let b = told(2, attestation::verify(key, digest, second));
+    let b = told(2, attestation::verify(profile, key, digest, second));
     let Answer::Done(q) = b else {
         return b;
     };
@@ -72,8 +80,12 @@ pub fn extract(
             place: 0,
         };
     }
-    let i = walk::passed(first, second, key);
-    octets::put(out1, 0, &attestation::judge::record(first, key, i));
-    octets::put(out2, 0, &attestation::judge::record(second, key, i));
+    let i = walk::passed(profile, first, second, key);
+    octets::put(out1, 0, &attestation::judge::record(profile, first, key, i));
+    octets::put(
+        out2,
+        0,
+        &attestation::judge::record(profile, second, key, i),
+    );
     Answer::Done(i as u32)
 }

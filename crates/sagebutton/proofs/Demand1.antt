@@ -25,6 +25,11 @@ use Rattle.codes.proofs.CodeLaws.{key-of-length}
 use Rattle.codes.proofs.TextLaws.{code-parts}
 use Rattle.codes.proofs.AcceptedLaws.{answer-done}
 use Rattle.codes.proofs.NothingSkipped.{nothing-skipped, every-listing-accepted}
+use Rattle.attester.specs.Extract.{extracted}
+use Rattle.attester.specs.Extract as extraction
+use Rattle.extractor.specs.Extract.{extraction-answer}
+use Rattle.contradiction.specs.declared.Outcome.the-variants as outcome
+use Rattle.contradiction.specs.Drill.{Drilling, number, no-number, refused, drilling, drill-answer, first-buffer, second-buffer, Drilled}
 use Rattle.sagebutton.specs.Demand1.{Demand-1, Written-is-the-list}
 
 -- The keys of codes are a listing
@@ -90,14 +95,28 @@ written-is-the-list text out n out′ r =
     let t = answer-done (reading (length out) text) n (sym (r .answered)) in
     whole-list text out out′ n (t .those) (t .is) (t .many) (r .left)
 
+-- a drill that is refused left the buffers: either nothing was handed to the extractor, or the extractor refused
+drill-untouched : (s : Octets) (bound : ℕ) (out₁ out₂ : Octets) (m p : ℕ) (out₁′ out₂′ : Octets)
+    → Drilled s bound out₁ out₂ (outcome.Refused m p) out₁′ out₂′ → (out₁′ ≡ out₁) × (out₂′ ≡ out₂)
+unfolding drill-answer first-buffer second-buffer extraction-answer written
+drill-untouched s bound out₁ out₂ m p out₁′ out₂′ h = go (drilling s bound (length out₁) (length out₂)) (h .answered) (h .first-left) (h .second-left)
+  where
+    go : (d : Drilling) → outcome.Refused m p ≡ drill-answer d → out₁′ ≡ first-buffer d out₁ → out₂′ ≡ second-buffer d out₂
+        → (out₁′ ≡ out₁) × (out₂′ ≡ out₂)
+    go (number n (extracted f)) e a b = let z : _≡_ {A = ℕ} 0 1 = cc in absurd (omega arith)
+    go (number n (extraction.refused k q)) e a b = (a, b)
+    go no-number e a b = (a, b)
+    go (refused k q) e a b = (a, b)
+
 pub demand-1 : Demand-1
 unfolding written
 demand-1 = record {
   hash-untouched = λ msg out m p out′ h. h .left;
   read-list-untouched = λ text out m p out′ h. h .left;
-  digest-untouched = λ list out m p out′ h. h .left;
-  attest-untouched = λ x list out m p out′ h. h .left;
-  extract-untouched = λ x d a b out₁ out₂ m p out₁′ out₂′ h. (h .first-left, h .second-left);
+  digest-untouched = λ profile list out m p out′ h. h .left;
+  attest-untouched = λ profile x list out m p out′ h. h .left;
+  extract-untouched = λ profile x d a b out₁ out₂ m p out₁′ out₂′ h. (h .first-left, h .second-left);
+  drill-untouched = drill-untouched;
   written-is-the-list = written-is-the-list;
   nothing-skipped = nothing-skipped;
   every-listing-accepted = every-listing-accepted;

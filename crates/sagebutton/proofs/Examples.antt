@@ -1,4 +1,4 @@
--- The examples by computation of all but the hash: tree, search and order compute, a label has 32 octets whatever it is, and the
+-- The examples by computation of all but the labels: tree, search and order compute, a label has 32 octets whatever it is, and the
 -- depths follow from the powers of two that the counts reach.
 use mathlib.Core.Path.{_≡_, refl, ap, _∙_}
 use mathlib.Core.Bool.{false}
@@ -7,10 +7,11 @@ use Prim.Native.Nat.{ℕ, suc, _+_, _^_, _≤_, _<_}
 use native.Mathlib.Omega.{arith}
 use lib.ListN.{length}
 use Rattle.octets.specs.Order.{Octets, order, same}
-use Rattle.sha256.proofs.Fips180Laws.{sha256-length}
+use Rattle.profile.specs.Profile.{label}
+use Rattle.profile.proofs.ProfileLaws.{label-length}
 use Rattle.attester.specs.Entry.{key}
 use Rattle.attester.specs.Tree.{leaf, tree-within, tree}
-use Rattle.attester.specs.Label.{label}
+use Rattle.attester.specs.Label as labels
 use Rattle.attester.specs.Listing.{Listing}
 use Rattle.attester.specs.Depth.{depth, bit-length}
 use Rattle.attester.specs.Path.{foot-entry}
@@ -26,7 +27,7 @@ use Rattle.attester.proofs.VerifyLaws.{verify-ended, verify-spoilt}
 use Rattle.codes.specs.Code.{within, all, digit, key-of}
 use Rattle.codes.specs.Count as count
 use Rattle.codes.specs.Text as text
-use Rattle.tree.specs.Edition.{hash, width, most}
+use Rattle.tree.specs.Edition.{width, most}
 use Rattle.sagebutton.specs.Examples.{code-1-1, code-2-7, code-3-4, code-3-40, code-A-2, code-3-39, code-1, F, over, lone, text-0, text-00, Examples-hold}
 
 -- one proof after another
@@ -55,27 +56,6 @@ F-listing = record {
       also tt;
 }
 
--- the length of an attestation under F, by its levels
-F-gives : (x : Octets) (n : ℕ) → 3 + levels-length width (search hash x (tree F)) ≡ n → length (attestation hash F x) ≡ n
-unfolding attestation
-F-gives x n e = render-levels width (search hash x (tree F)) (issued-sized hash sha256-length width most F x F-listing) ∙ e
-
-gives-3-4 : length (attestation hash F (key-of code-3-4)) ≡ 88
-unfolding tree tree-within search side key key-of order label levels-length
-gives-3-4 = F-gives (key-of code-3-4) 88 refl
-
-gives-1-1 : length (attestation hash F (key-of code-1-1)) ≡ 98
-unfolding tree tree-within search side key key-of order label levels-length
-gives-1-1 = F-gives (key-of code-1-1) 98 refl
-
-gives-3-39 : length (attestation hash F (key-of code-3-39)) ≡ 109
-unfolding tree tree-within search side key key-of order label levels-length
-gives-3-39 = F-gives (key-of code-3-39) 109 refl
-
-gives-1 : length (attestation hash F (key-of code-1)) ≡ 98
-unfolding tree tree-within search side key key-of order label levels-length
-gives-1 = F-gives (key-of code-1) 98 refl
-
 absent-3-39 : listed (key-of code-3-39) F ≡ false
 unfolding listed same key key-of order
 absent-3-39 = refl
@@ -84,13 +64,37 @@ absent-1 : listed (key-of code-1) F ≡ false
 unfolding listed same key key-of order
 absent-1 = refl
 
-foot-3-39 : foot-entry (search hash (key-of code-3-39) (tree F)) ≡ key-of code-2-7
-unfolding tree tree-within search side key key-of order foot-entry
-foot-3-39 = refl
+-- The attestations, whatever the labels
 
-foot-1 : foot-entry (search hash (key-of code-1) (tree F)) ≡ key-of code-1-1
-unfolding tree tree-within search side key key-of order foot-entry
-foot-1 = refl
+module _ (profile : ℕ) where
+  -- the length of an attestation under F, by its levels
+  F-gives : (x : Octets) (n : ℕ) → 3 + levels-length width (search (label profile) x (tree F)) ≡ n → length (attestation (label profile) F x) ≡ n
+  unfolding attestation
+  F-gives x n e = render-levels width (search (label profile) x (tree F)) (issued-sized (label profile) (label-length profile) width most F x F-listing) ∙ e
+
+  gives-3-4 : length (attestation (label profile) F (key-of code-3-4)) ≡ 88
+  unfolding tree tree-within search side key key-of order labels.label levels-length
+  gives-3-4 = F-gives (key-of code-3-4) 88 refl
+
+  gives-1-1 : length (attestation (label profile) F (key-of code-1-1)) ≡ 98
+  unfolding tree tree-within search side key key-of order labels.label levels-length
+  gives-1-1 = F-gives (key-of code-1-1) 98 refl
+
+  gives-3-39 : length (attestation (label profile) F (key-of code-3-39)) ≡ 109
+  unfolding tree tree-within search side key key-of order labels.label levels-length
+  gives-3-39 = F-gives (key-of code-3-39) 109 refl
+
+  gives-1 : length (attestation (label profile) F (key-of code-1)) ≡ 98
+  unfolding tree tree-within search side key key-of order labels.label levels-length
+  gives-1 = F-gives (key-of code-1) 98 refl
+
+  foot-3-39 : foot-entry (search (label profile) (key-of code-3-39) (tree F)) ≡ key-of code-2-7
+  unfolding tree tree-within search side key key-of order foot-entry
+  foot-3-39 = refl
+
+  foot-1 : foot-entry (search (label profile) (key-of code-1) (tree F)) ≡ key-of code-1-1
+  unfolding tree tree-within search side key key-of order foot-entry
+  foot-1 = refl
 
 -- Depths
 
@@ -122,25 +126,25 @@ unfolding text.reading text.opening text.second-line text.ended text.before-LF t
 reading-00 room = refl
 
 pub examples-hold : Examples-hold
-examples-hold =
+examples-hold profile =
     F-is
-    also gives-3-4
-    also gives-1-1
+    also gives-3-4 profile
+    also gives-1-1 profile
     also absent-3-39
-    also gives-3-39
-    also foot-3-39
+    also gives-3-39 profile
+    also foot-3-39 profile
     also absent-1
-    also gives-1
-    also foot-1
+    also gives-1 profile
+    also foot-1 profile
     also depth-between 0 1 (omega arith) (omega arith)
     also depth-between 1 2 (omega arith) (omega arith)
     also depth-between 1 3 (omega arith) (omega arith)
     also depth-between 2 7 (omega arith) (omega arith)
     also depth-between 3 8 (omega arith) (omega arith)
     also depth-between 11 3000 (omega arith) (omega arith)
-    also (λ x d n m. verify-ended hash width x d [] n m 0 empty-ends)
-    also (λ rest x d n m. verify-spoilt hash width x d (33 ∷ [] ++ rest) n m 0 (K-33-spoils rest))
-    also (λ x d n m. verify-ended hash width x d (1 ∷ []) n m 1 lone-ends)
+    also (λ x d n m. verify-ended (label profile) width x d [] n m 0 empty-ends)
+    also (λ rest x d n m. verify-spoilt (label profile) width x d (33 ∷ [] ++ rest) n m 0 (K-33-spoils rest))
+    also (λ x d n m. verify-ended (label profile) width x d (1 ∷ []) n m 1 lone-ends)
     also reading-0
     also reading-00
     also tt

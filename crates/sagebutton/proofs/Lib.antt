@@ -1,4 +1,5 @@
 pub mod OneOutcome
+pub mod Profiles
 pub mod Demand1
 pub mod Demand2
 pub mod Demand3

@@ -11,14 +11,17 @@ use Rattle.sha256.specs.Fips180.{sha256}
 use Rattle.sha256.specs.Hash.{Hashed, hash-answer}
 use Rattle.codes.specs.Text.{reading}
 use Rattle.codes.specs.Read.{Read, answer, keys}
+use Rattle.profile.specs.Profile.{label, in-profile}
 use Rattle.tree.specs.Digest.{Digested, digest-answer, digest-octets}
-use Rattle.tree.specs.Edition.{hash, width, most}
+use Rattle.tree.specs.Edition.{width, most}
 use Rattle.attester.specs.Verify.{verify}
 use Rattle.attestation.specs.Attest.{Attested, attest-answer, attest-octets}
 use Rattle.attestation.specs.Verify.{Verified, verdict-of}
 use Rattle.attester.specs.Extract.{extract}
 use Rattle.extractor.specs.Extract.{Extracted, extraction-answer, first-record, second-record}
-use Rattle.sagebutton.specs.Packed.{Packing, Verdict-packing}
+use Rattle.contradiction.specs.Drill.{Drilled, drilling, drill-answer, first-buffer, second-buffer, drill-packed}
+use Rattle.contradiction.specs.declared.Outcome.the-variants as outcome
+use Rattle.sagebutton.specs.Packed.{Packing, Verdict-packing, Drill-packing}
 use Rattle.sagebutton.specs.OneOutcome.{One-outcome, Numbered, Lends-nothing, Lends-two, Every-input-has-one-outcome}
 
 hash-has-one-outcome : (msg out : Octets) → One-outcome (Hashed msg out)
@@ -37,41 +40,56 @@ read-list-has-one-outcome text out = record {
   only = λ r out′ m. (m .answered, cc);
 }
 
-digest-has-one-outcome : (list out : Octets) → One-outcome (Digested list out)
-digest-has-one-outcome list out = record {
-  answer = digest-answer width most list (length out);
-  buffer = written (digest-answer width most list (length out)) (digest-octets hash width most list) out;
-  permitted = record { answered = refl; left = refl };
-  only = λ r out′ m. (m .answered, cc);
-}
+digest-has-one-outcome : (profile : ℕ) (list out : Octets) → One-outcome (Digested profile list out)
+digest-has-one-outcome profile list out =
+    let a = in-profile Refused profile (digest-answer width most list (length out)) in
+    record {
+      answer = a;
+      buffer = written a (digest-octets (label profile) width most list) out;
+      permitted = record { answered = refl; left = refl };
+      only = λ r out′ m. (m .answered, cc);
+    }
 
-attest-has-one-outcome : (x list out : Octets) → One-outcome (Attested x list out)
-attest-has-one-outcome x list out = record {
-  answer = attest-answer hash width most x list (length out);
-  buffer = written (attest-answer hash width most x list (length out)) (attest-octets hash width most x list) out;
-  permitted = record { answered = refl; left = refl };
-  only = λ r out′ m. (m .answered, cc);
-}
+attest-has-one-outcome : (profile : ℕ) (x list out : Octets) → One-outcome (Attested profile x list out)
+attest-has-one-outcome profile x list out =
+    let a = in-profile Refused profile (attest-answer (label profile) width most x list (length out)) in
+    record {
+      answer = a;
+      buffer = written a (attest-octets (label profile) width most x list) out;
+      permitted = record { answered = refl; left = refl };
+      only = λ r out′ m. (m .answered, cc);
+    }
 
-verify-has-one-outcome : (x d a : Octets) → One-outcome (Lends-nothing (Verified x d a))
-verify-has-one-outcome x d a = record {
-  answer = verdict-of (verify hash width x d a);
+verify-has-one-outcome : (profile : ℕ) (x d a : Octets) → One-outcome (Lends-nothing (Verified profile x d a))
+verify-has-one-outcome profile x d a = record {
+  answer = in-profile verdict.Refused profile (verdict-of (verify (label profile) width x d a));
   buffer = tt;
   permitted = record { answered = refl };
   only = λ v nothing m. (m .answered, refl);
 }
 
-extract-has-one-outcome : (x d a b out₁ out₂ : Octets) → One-outcome (Lends-two (Extracted x d a b out₁ out₂))
-extract-has-one-outcome x d a b out₁ out₂ =
-    let e = extract hash width x d a b (length out₁) (length out₂) in
+extract-has-one-outcome : (profile : ℕ) (x d a b out₁ out₂ : Octets) → One-outcome (Lends-two (Extracted profile x d a b out₁ out₂))
+extract-has-one-outcome profile x d a b out₁ out₂ =
+    let e = extract (label profile) width x d a b (length out₁) (length out₂) in
+    let s = in-profile Refused profile (extraction-answer e) in
     record {
-      answer = extraction-answer e;
-      buffer = (written (extraction-answer e) (first-record e) out₁, written (extraction-answer e) (second-record e) out₂);
+      answer = s;
+      buffer = (written s (first-record e) out₁, written s (second-record e) out₂);
       permitted = record { answered = refl; first-left = refl; second-left = refl };
       only = λ r buffers m.
-          let first : buffers .0 ≡ written (extraction-answer e) (first-record e) out₁ = rw (m .answered) at (m .first-left) in
-          let second : buffers .1 ≡ written (extraction-answer e) (second-record e) out₂ = rw (m .answered) at (m .second-left) in
+          let first : buffers .0 ≡ written s (first-record e) out₁ = rw (m .answered) at (m .first-left) in
+          let second : buffers .1 ≡ written s (second-record e) out₂ = rw (m .answered) at (m .second-left) in
           (m .answered, λ i. (first i, second i));
+    }
+
+drill-has-one-outcome : (text : Octets) (bound : ℕ) (out₁ out₂ : Octets) → One-outcome (Lends-two (Drilled text bound out₁ out₂))
+drill-has-one-outcome text bound out₁ out₂ =
+    let d = drilling text bound (length out₁) (length out₂) in
+    record {
+      answer = drill-answer d;
+      buffer = (first-buffer d out₁, second-buffer d out₂);
+      permitted = record { answered = refl; first-left = refl; second-left = refl };
+      only = λ r buffers m. (m .answered, λ i. (m .first-left i, m .second-left i));
     }
 
 -- whatever promise has one outcome, its export has
@@ -91,12 +109,18 @@ every-input-has-one-outcome = record {
   attest = attest-has-one-outcome;
   verify = verify-has-one-outcome;
   extract = extract-has-one-outcome;
+  drill = drill-has-one-outcome;
   exported-hash = λ msg out. exported packed (Hashed msg out) (hash-has-one-outcome msg out);
   exported-read-list = λ text out. exported packed (Read text out) (read-list-has-one-outcome text out);
-  exported-digest = λ list out. exported packed (Digested list out) (digest-has-one-outcome list out);
-  exported-attest = λ x list out. exported packed (Attested x list out) (attest-has-one-outcome x list out);
-  exported-verify = λ x d a. exported verdict-packed (Lends-nothing (Verified x d a)) (verify-has-one-outcome x d a);
-  exported-extract = λ x d a b out₁ out₂. exported packed (Lends-two (Extracted x d a b out₁ out₂)) (extract-has-one-outcome x d a b out₁ out₂);
+  exported-digest = λ profile list out. exported packed (Digested profile list out) (digest-has-one-outcome profile list out);
+  exported-attest = λ profile x list out. exported packed (Attested profile x list out) (attest-has-one-outcome profile x list out);
+  exported-verify = λ profile x d a. exported verdict-packed (Lends-nothing (Verified profile x d a)) (verify-has-one-outcome profile x d a);
+  exported-extract =
+      λ profile x d a b out₁ out₂.
+      exported packed (Lends-two (Extracted profile x d a b out₁ out₂)) (extract-has-one-outcome profile x d a b out₁ out₂);
+  exported-drill =
+      λ text bound out₁ out₂.
+      exported drill-packed (Lends-two (Drilled text bound out₁ out₂)) (drill-has-one-outcome text bound out₁ out₂);
 }
 
 pub packing : Packing
@@ -107,3 +131,8 @@ pub verdict-packing : Verdict-packing
 verdict-packing verdict.Present h = record { low = omega arith; middle = omega arith; high = omega arith }
 verdict-packing verdict.Absent h = record { low = omega arith; middle = omega arith; high = omega arith }
 verdict-packing (verdict.Refused m p) h = record { low = omega arith; middle = omega arith; high = omega arith }
+
+pub drill-packing : Drill-packing
+drill-packing (outcome.Found n) h = record { low = omega arith; middle = omega arith; high = omega arith }
+drill-packing outcome.None h = record { low = omega arith; middle = omega arith; high = omega arith }
+drill-packing (outcome.Refused m p) h = record { low = omega arith; middle = omega arith; high = omega arith }

@@ -14,11 +14,13 @@ use Rattle.answer.specs.declared.Verdict.the-variants as verdict
 use Rattle.answer.specs.Answer.{written}
 use Rattle.answer.specs.Refusals.{too-short}
 use Rattle.octets.specs.Order.{Octets, order, same}
-use Rattle.sha256.proofs.Fips180Laws.{sha256-length}
+use Rattle.profile.specs.Profile.{known, label}
+use Rattle.profile.proofs.ProfileLaws.{label-length, in-known}
 use Rattle.attester.specs.Entry.{key}
 use Rattle.attester.specs.Record.{flag, child-octets, node-record, Labels}
 use Rattle.attester.specs.Tree.{tree-within, tree}
-use Rattle.attester.specs.Label.{label, digest}
+use Rattle.attester.specs.Label.{digest}
+use Rattle.attester.specs.Label as labels
 use Rattle.attester.specs.Listing.{Listing}
 use Rattle.attester.specs.Path.{foot, step, foot-entry, foot-left, foot-right}
 use Rattle.attester.specs.Verdict.{Judgement, present, absent, side, root-record, judge}
@@ -34,9 +36,9 @@ use Rattle.codes.specs.Code.{within, all, digit, letter, hyphen, character, apa
 use Rattle.codes.specs.Count as count
 use Rattle.codes.specs.Text as text
 use Rattle.codes.specs.Read.{answer, keys}
-use Rattle.tree.specs.Edition.{hash, width, most}
+use Rattle.tree.specs.Edition.{width, most}
 use Rattle.attestation.specs.Attest.{issue-answer, attest-answer}
-use Rattle.attestation.specs.Verify.{verdict-of}
+use Rattle.attestation.specs.Verify.{Verified, verdict-of}
 use Rattle.sagebutton.specs.WrongPrograms.{Issued, Refuses-all, Absent-to-all, Always-6, Writes-no-keys, Another-count, Collision, foot-only, Foot-suffices, Foot-verifies, front, Wrong-programs-rejected}
 use Rattle.sagebutton.proofs.Demand2.{demand-2}
 use Rattle.sagebutton.proofs.WrongExtractors.{low, high, does-nothing, shows-one-pair}
@@ -55,44 +57,49 @@ one-listing = record {
   ascending = (tt, tt);
 }
 
-one-issued : Issued one low (digest hash one) (attestation hash one low)
-one-issued = record { listing = one-listing; key-size = refl; digest-is = refl; is = refl }
-
 one-listed : listed low one ≡ true
 unfolding one listed same key order
 one-listed = refl
 
-one-present : verdict-of (verify hash width low (digest hash one) (attestation hash one low)) ≡ verdict.Present
-unfolding verdict-of
-one-present = rw (theory.demand-2 hash width most sha256-length (omega arith) one low one-listing refl, one-listed)
+module _ (profile : ℕ) (k : known profile ≡ true) where
+  one-issued : Issued profile one low (digest (label profile) one) (attestation (label profile) one low)
+  one-issued = record { listing = one-listing; key-size = refl; digest-is = refl; is = refl }
 
-refuses-all : Refuses-all → ⊥
-refuses-all h =
-    let v = h one low (digest hash one) (attestation hash one low) one-issued in
-    let e : verdict.Refused (v .0) (v .1) ≡ verdict.Present = v .2 .answered ∙ one-present in
-    let z : _≡_ {A = ℕ} 0 1 = cc in
-    omega arith
+  one-present : {v : Verdict} → Verified profile low (digest (label profile) one) (attestation (label profile) one low) v → v ≡ verdict.Present
+  unfolding verdict-of
+  one-present e =
+      e .answered
+      ∙ in-known verdict.Refused profile (verdict-of (verify (label profile) width low (digest (label profile) one) (attestation (label profile) one low))) k
+      ∙ rw (theory.demand-2 (label profile) width most (label-length profile) (omega arith) one low one-listing refl, one-listed)
 
-absent-to-all : Absent-to-all → ⊥
-absent-to-all h =
-    let e : verdict.Absent ≡ verdict.Present = h one low (digest hash one) (attestation hash one low) one-issued .answered ∙ one-present in
-    let z : _≡_ {A = ℕ} 0 1 = cc in
-    omega arith
+  refuses-all : Refuses-all profile → ⊥
+  refuses-all h =
+      let v = h one low (digest (label profile) one) (attestation (label profile) one low) one-issued in
+      let e : verdict.Refused (v .0) (v .1) ≡ verdict.Present = one-present (v .2) in
+      let z : _≡_ {A = ℕ} 0 1 = cc in
+      omega arith
 
--- The issuer: there is room
+  absent-to-all : Absent-to-all profile → ⊥
+  absent-to-all h =
+      let e : verdict.Absent ≡ verdict.Present = one-present (h one low (digest (label profile) one) (attestation (label profile) one low) one-issued) in
+      let z : _≡_ {A = ℕ} 0 1 = cc in
+      omega arith
 
-always-6 : Always-6 → ⊥
-unfolding attest-answer issue-answer
-always-6 h =
-    let out : Octets = replicate 586 0 in
-    let r : Refused too-short 0 ≡ attest-answer hash width most low (flatten one) (length out) = h one low out one-listing refl (omega arith) .1 .answered in
-    let short : length (attestation hash one low) ≤ 586 =
-    demand-2 .longest-issued .most (attestation hash one low) record { list = one; listing = one-listing; key = low; key-size = refl; is = refl } in
-    let a = listing-admitted width most one (omega arith) one-listing in
-    let f = le-leb (length (attestation hash one low)) (length out) (omega arith) in
-    let e : Refused too-short 0 ≡ Done (length (attestation hash one low)) = r ∙ rw (a, f) in
-    let z : _≡_ {A = ℕ} 0 1 = cc in
-    omega arith
+  -- The issuer: there is room
+
+  always-6 : Always-6 profile → ⊥
+  unfolding attest-answer issue-answer
+  always-6 h =
+      let out : Octets = replicate 586 0 in
+      let r : Refused too-short 0 ≡ attest-answer (label profile) width most low (flatten one) (length out) =
+      h one low out one-listing refl (omega arith) .1 .answered ∙ in-known Refused profile (attest-answer (label profile) width most low (flatten one) (length out)) k in
+      let short : length (attestation (label profile) one low) ≤ 586 =
+      demand-2 .longest-issued profile .most (attestation (label profile) one low) record { list = one; listing = one-listing; key = low; key-size = refl; is = refl } in
+      let a = listing-admitted width most one (omega arith) one-listing in
+      let f = le-leb (length (attestation (label profile) one low)) (length out) (omega arith) in
+      let e : Refused too-short 0 ≡ Done (length (attestation (label profile) one low)) = r ∙ rw (a, f) in
+      let z : _≡_ {A = ℕ} 0 1 = cc in
+      omega arith
 
 -- The list readers: the text of one code
 
@@ -146,11 +153,11 @@ module _ (H : Octets → Octets) where
   top-record = node-record (some (H foot-record)) high none
 
   two-path : search H low (tree two) ≡ step high none (foot low none none)
-  unfolding two tree tree-within search side key order label
+  unfolding two tree tree-within search side key order labels.label
   two-path = refl
 
   two-digest : digest H two ≡ H top-record
-  unfolding two tree tree-within label digest child-octets
+  unfolding two tree tree-within labels.label digest child-octets
   two-digest = refl
 
   two-listed : listed low two ≡ true
@@ -199,14 +206,14 @@ judgement-of-verdict present = refl
 judgement-of-verdict absent = refl
 judgement-of-verdict (judgement.refused m p) = refl
 
-foot-verifies-suffices : Foot-verifies → Foot-suffices hash
-foot-verifies-suffices h list x l n =
-    let d = digest hash list in
-    let a = attestation hash list x in
+foot-verifies-suffices : (profile : ℕ) → known profile ≡ true → Foot-verifies profile → Foot-suffices (label profile)
+foot-verifies-suffices profile k h list x l n =
+    let d = digest (label profile) list in
+    let a = attestation (label profile) list x in
     let v = h list x d a record { listing = l; key-size = n; digest-is = refl; is = refl } in
-    sym (judgement-of-verdict (foot-only hash x d a))
-    ∙ (ap judgement-of (v .answered) ∙ judgement-of-verdict (verify hash width x d a))
-    ∙ theory.demand-2 hash width most sha256-length (omega arith) list x l n
+    sym (judgement-of-verdict (foot-only (label profile) x d a))
+    ∙ (ap judgement-of (v .answered ∙ in-known verdict.Refused profile (verdict-of (verify (label profile) width x d a)) k) ∙ judgement-of-verdict (verify (label profile) width x d a))
+    ∙ theory.demand-2 (label profile) width most (label-length profile) (omega arith) list x l n
 
 pub wrong-programs-rejected : Wrong-programs-rejected
 wrong-programs-rejected = record {
@@ -217,7 +224,7 @@ wrong-programs-rejected = record {
   another-count = another-count;
   foot-suffices = λ h. fronts-differ (one-label front front-labels h);
   foot-suffices-collides = foot-suffices-collides;
-  foot-verifies-collides = λ h. foot-suffices-collides hash sha256-length (foot-verifies-suffices h);
+  foot-verifies-collides = λ profile k h. foot-suffices-collides (label profile) (label-length profile) (foot-verifies-suffices profile k h);
   does-nothing = does-nothing;
   shows-one-pair = shows-one-pair;
 }

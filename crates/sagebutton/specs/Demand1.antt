@@ -14,6 +14,8 @@ use Rattle.tree.specs.Digest.{Digested}
 use Rattle.tree.specs.Edition.{width}
 use Rattle.attestation.specs.Attest.{Attested}
 use Rattle.extractor.specs.Extract.{Extracted}
+use Rattle.contradiction.specs.declared.Outcome.the-variants as outcome
+use Rattle.contradiction.specs.Drill.{Drilled}
 
 -- a refused call leaves its buffer as it was
 abbrev pub Untouched : (Octets → Answer → Octets → Type 0) → Type 0
@@ -29,10 +31,12 @@ Written-is-the-list = (text out : Octets) (n : ℕ) (out′ : Octets) → Read t
 pub record Demand-1 : Type 0 where
   pub hash-untouched : (msg : Octets) → Untouched (Hashed msg)
   pub read-list-untouched : (text : Octets) → Untouched (Read text)
-  pub digest-untouched : (keys : Octets) → Untouched (Digested keys)
-  pub attest-untouched : (x keys : Octets) → Untouched (Attested x keys)
-  pub extract-untouched : (x d a b out₁ out₂ : Octets) (m p : ℕ) (out₁′ out₂′ : Octets) → Extracted x d a b out₁ out₂ (Refused m p) out₁′ out₂′
+  pub digest-untouched : (profile : ℕ) (keys : Octets) → Untouched (Digested profile keys)
+  pub attest-untouched : (profile : ℕ) (x keys : Octets) → Untouched (Attested profile x keys)
+  pub extract-untouched : (profile : ℕ) (x d a b out₁ out₂ : Octets) (m p : ℕ) (out₁′ out₂′ : Octets) → Extracted profile x d a b out₁ out₂ (Refused m p) out₁′ out₂′
       → (out₁′ ≡ out₁) × (out₂′ ≡ out₂)
+  pub drill-untouched : (text : Octets) (bound : ℕ) (out₁ out₂ : Octets) (m p : ℕ) (out₁′ out₂′ : Octets)
+      → Drilled text bound out₁ out₂ (outcome.Refused m p) out₁′ out₂′ → (out₁′ ≡ out₁) × (out₂′ ≡ out₂)
   pub written-is-the-list : Written-is-the-list
   pub nothing-skipped : Nothing-skipped
   pub every-listing-accepted : Every-listing-accepted

@@ -1,8 +1,9 @@
 -- Demand 2: "For any list we accept and any 20-octet key, the attestation we issue is accepted under that list's digest: Present
 -- if listed, Absent if not." It is stated of what the functions promise, so of what a caller holds in its buffers, and proved in
--- `proofs/Demand2.antt`. The hash is SHA-256; `attester` has the same over any function from records to labels.
+-- `proofs/Demand2.antt`. 02 (vi): "under one profile number throughout: digest, issue, both verdicts and extractor alike"; `attester`
+-- has the same over any function from records to labels.
 use mathlib.Core.Path.{_≡_}
-use mathlib.Core.Bool.{cond}
+use mathlib.Core.Bool.{true, cond}
 use mathlib.Core.List.{List, flatten}
 use Prim.Native.Nat.{ℕ, _*_, _≤_}
 use lib.Dec.{leb}
@@ -13,6 +14,7 @@ use Rattle.answer.specs.declared.Verdict.{Verdict}
 use Rattle.answer.specs.declared.Verdict.the-variants.{Present, Absent}
 use Rattle.answer.specs.Refusals.{too-short}
 use Rattle.octets.specs.Order.{Octets}
+use Rattle.profile.specs.Profile.{known, label}
 use Rattle.attester.specs.Entry.{entries}
 use Rattle.attester.specs.Label.{digest}
 use Rattle.attester.specs.Listing.{Listing}
@@ -21,37 +23,37 @@ use Rattle.attester.specs.Attestation.{attestation}
 use Rattle.attester.specs.Longest.{Issued, Taken, Longest}
 use Rattle.codes.specs.Read.{Read}
 use Rattle.tree.specs.Digest.{Digested}
-use Rattle.tree.specs.Edition.{hash, width, most}
+use Rattle.tree.specs.Edition.{width, most}
 use Rattle.attestation.specs.Attest.{Attested}
 use Rattle.attestation.specs.Verify.{Verified}
 
 -- A list that `digest` accepted, with its n keys and what was left, d′; an attestation for x that `attest` issued under it, the
 -- first m octets of what was left, out′; and any verdict of `verify` on those octets under d′.
-abbrev pub Issued-is-accepted : Type 0
-Issued-is-accepted =
-    (keys d : Octets) (n : ℕ) (d′ : Octets) → Digested keys d (Done n) d′
-    → (x out : Octets) (m : ℕ) (out′ : Octets) → Attested x keys out (Done m) out′
-    → (v : Verdict) → Verified x d′ (take m out′) v → v ≡ cond (listed x (entries width n keys)) Present Absent
+abbrev pub Issued-is-accepted : ℕ → Type 0
+Issued-is-accepted profile =
+    (keys d : Octets) (n : ℕ) (d′ : Octets) → Digested profile keys d (Done n) d′
+    → (x out : Octets) (m : ℕ) (out′ : Octets) → Attested profile x keys out (Done m) out′
+    → (v : Verdict) → Verified profile x d′ (take m out′) v → v ≡ cond (listed x (entries width n keys)) Present Absent
 
 -- what `attest` answers for the key x under an accepted list, in so much room: 6 exactly when the attestation is longer, and for
 -- none is more than 586 needed
-pub record Issues (keys : List Octets) (x : Octets) (room : ℕ) (s : Answer) : Type 0 where
-  pub answers : s ≡ cond (leb (length (attestation hash keys x)) room) (Done (length (attestation hash keys x))) (Refused too-short 0)
-  pub length-most : length (attestation hash keys x) ≤ 586
+pub record Issues (profile : ℕ) (keys : List Octets) (x : Octets) (room : ℕ) (s : Answer) : Type 0 where
+  pub answers : s ≡ cond (leb (length (attestation (label profile) keys x)) room) (Done (length (attestation (label profile) keys x))) (Refused too-short 0)
+  pub length-most : length (attestation (label profile) keys x) ≤ 586
 
 -- An attestation is issued for any key of 20 octets under any list that `digest` accepted, if there is room.
-abbrev pub Issued-if-it-fits : Type 0
-Issued-if-it-fits =
-    (keys d : Octets) (n : ℕ) (d′ : Octets) → Digested keys d (Done n) d′
-    → (x : Octets) → length x ≡ 20 → (out : Octets) (s : Answer) (out′ : Octets) → Attested x keys out s out′
-    → Issues (entries width n keys) x (length out) s
+abbrev pub Issued-if-it-fits : ℕ → Type 0
+Issued-if-it-fits profile =
+    (keys d : Octets) (n : ℕ) (d′ : Octets) → Digested profile keys d (Done n) d′
+    → (x : Octets) → length x ≡ 20 → (out : Octets) (s : Answer) (out′ : Octets) → Attested profile x keys out s out′
+    → Issues profile (entries width n keys) x (length out) s
 
 -- The accepted lists are those of 1 to 3,000 keys of 20 octets, strictly ascending: each is accepted, with its digest,
-abbrev pub Listings-are-accepted : Type 0
-Listings-are-accepted =
+abbrev pub Listings-are-accepted : ℕ → Type 0
+Listings-are-accepted profile =
     (keys : List Octets) → Listing width most keys
-    → (d : Octets) → length d ≡ 32 → (r : Answer) (d′ : Octets) → Digested (flatten keys) d r d′
-    → (r ≡ Done (length keys)) × (d′ ≡ digest hash keys)
+    → (d : Octets) → length d ≡ 32 → (r : Answer) (d′ : Octets) → Digested profile (flatten keys) d r d′
+    → (r ≡ Done (length keys)) × (d′ ≡ digest (label profile) keys)
 
 -- these octets are such a list's, one key after another
 pub record Listing-of (n : ℕ) (octets : Octets) : Type 0 where
@@ -59,19 +61,20 @@ pub record Listing-of (n : ℕ) (octets : Octets) : Type 0 where
   pub whole : octets ≡ flatten (entries width n octets)
 
 -- and no other is.
-abbrev pub Accepted-are-listings : Type 0
-Accepted-are-listings = (keys d : Octets) (n : ℕ) (d′ : Octets) → Digested keys d (Done n) d′ → Listing-of n keys
+abbrev pub Accepted-are-listings : ℕ → Type 0
+Accepted-are-listings profile = (keys d : Octets) (n : ℕ) (d′ : Octets) → Digested profile keys d (Done n) d′ → Listing-of n keys
 
 -- What `read_list` wrote of an accepted text is such a list. `Demand1` says that it is the text's.
 abbrev pub Read-are-listings : Type 0
 Read-are-listings = (text out : Octets) (n : ℕ) (out′ : Octets) → Read text out (Done n) out′ → Listing-of n (take (width * n) out′)
 
--- 01, "The attestation": "The longest the verifier takes is 1,731 octets; the longest we issue is 586." Each is reached.
+-- Each with one profile throughout. What `digest` accepted is of a known profile, so that lists are accepted alone asks for one.
 pub record Demand-2 : Type 0 where
-  pub issued-is-accepted : Issued-is-accepted
-  pub issued-if-it-fits : Issued-if-it-fits
-  pub listings-are-accepted : Listings-are-accepted
-  pub accepted-are-listings : Accepted-are-listings
+  pub issued-is-accepted : (profile : ℕ) → Issued-is-accepted profile
+  pub issued-if-it-fits : (profile : ℕ) → Issued-if-it-fits profile
+  pub listings-are-accepted : (profile : ℕ) → known profile ≡ true → Listings-are-accepted profile
+  pub accepted-are-listings : (profile : ℕ) → Accepted-are-listings profile
   pub read-are-listings : Read-are-listings
-  pub longest-issued : Longest (Issued hash width most) 586
-  pub longest-taken : Longest (Taken hash width) 1731
+  -- 01, "The attestation": "The longest the verifier takes is 1,731 octets; the longest we issue is 586." Each is reached.
+  pub longest-issued : (profile : ℕ) → Longest (Issued (label profile) width most) 586
+  pub longest-taken : (profile : ℕ) → Longest (Taken (label profile) width) 1731

@@ -6,6 +6,7 @@ use mathlib.Core.List.{List, [], _∷_, _++_, map}
 use Prim.Native.Nat.{ℕ}
 use lib.ListN.{length}
 use Rattle.octets.specs.Order.{Octets}
+use Rattle.profile.specs.Profile.{label}
 use Rattle.attester.specs.Tree.{Tree, leaf, node, tree}
 use Rattle.attester.specs.Depth.{depth}
 use Rattle.attester.specs.Path.{foot-entry}
@@ -15,7 +16,7 @@ use Rattle.attester.specs.Search.{search, listed}
 use Rattle.attester.specs.Attestation.{attestation}
 use Rattle.codes.specs.Code.{key-of}
 use Rattle.codes.specs.Text as text
-use Rattle.tree.specs.Edition.{hash, width}
+use Rattle.tree.specs.Edition.{width}
 
 -- 1-1
 abbrev pub code-1-1 : Octets
@@ -77,24 +78,24 @@ pub data Example : Type 0 where
   text-refused : Octets → ℕ → ℕ → Example
 
 -- the verdict on these octets, for any key under any digest
-abbrev pub Refused-for-all : Octets → ℕ → ℕ → Type 0
-Refused-for-all a m p = (x d : Octets) → length x ≡ 20 → length d ≡ 32 → verify hash width x d a ≡ verdict.refused m p
+abbrev pub Refused-for-all : ℕ → Octets → ℕ → ℕ → Type 0
+Refused-for-all profile a m p = (x d : Octets) → length x ≡ 20 → length d ≡ 32 → verify (label profile) width x d a ≡ verdict.refused m p
 
--- that this is so
-abbrev pub Holds : Example → Type 0
-Holds (F-is t) = tree F ≡ t
-Holds (absent c) = listed (key-of c) F ≡ false
-Holds (gives c n) = length (attestation hash F (key-of c)) ≡ n
-Holds (has-foot c f) = foot-entry (search hash (key-of c) (tree F)) ≡ key-of f
-Holds (depth-of n b) = (keys : List Octets) → length keys ≡ n → depth (tree keys) ≡ b
-Holds (attestation-refused a m p) = Refused-for-all a m p
-Holds (beginning-refused a m p) = (rest : Octets) → Refused-for-all (a ++ rest) m p
-Holds (text-refused t m p) = (room : ℕ) → text.reading room t ≡ text.refused m p
+-- that this is so with the labels of a profile
+abbrev pub Holds : ℕ → Example → Type 0
+Holds profile (F-is t) = tree F ≡ t
+Holds profile (absent c) = listed (key-of c) F ≡ false
+Holds profile (gives c n) = length (attestation (label profile) F (key-of c)) ≡ n
+Holds profile (has-foot c f) = foot-entry (search (label profile) (key-of c) (tree F)) ≡ key-of f
+Holds profile (depth-of n b) = (keys : List Octets) → length keys ≡ n → depth (tree keys) ≡ b
+Holds profile (attestation-refused a m p) = Refused-for-all profile a m p
+Holds profile (beginning-refused a m p) = (rest : Octets) → Refused-for-all profile (a ++ rest) m p
+Holds profile (text-refused t m p) = (room : ℕ) → text.reading room t ≡ text.refused m p
 
 -- each of them is so
-abbrev pub All-hold : List Example → Type 0
-All-hold [] = Unit {0}
-All-hold (e ∷ es) = Holds e × All-hold es
+abbrev pub All-hold : ℕ → List Example → Type 0
+All-hold profile [] = Unit {0}
+All-hold profile (e ∷ es) = Holds profile e × All-hold profile es
 
 -- the box's examples marked P, in its order
 abbrev pub examples : List Example
@@ -126,5 +127,6 @@ examples =
     ∷ text-refused text-00 12 2
     ∷ []
 
+-- with the labels of any profile
 abbrev pub Examples-hold : Type 0
-Examples-hold = All-hold examples
+Examples-hold = (profile : ℕ) → All-hold profile examples

@@ -3,7 +3,7 @@
 -- that "a constant hash" is rejected takes two values of SHA-256, which the logic does not compute; `constant_hash.edit` of the
 -- crate sha256 tries that program.
 use mathlib.Core.Path.{_≡_}
-use mathlib.Core.Bool.{cond}
+use mathlib.Core.Bool.{true, cond}
 use mathlib.Core.List.{List, _++_, flatten}
 use Prim.Native.Nat.{ℕ, _≤_}
 use lib.ListN.{length, take, replicate}
@@ -11,6 +11,7 @@ use Rattle.answer.specs.declared.Answer.the-variants.{Done, Refused}
 use Rattle.answer.specs.declared.Verdict.the-variants as verdict
 use Rattle.answer.specs.Refusals.{too-short}
 use Rattle.octets.specs.Order.{Octets}
+use Rattle.profile.specs.Profile.{known, label}
 use Rattle.attester.specs.Record.{Labels}
 use Rattle.attester.specs.Label.{digest}
 use Rattle.attester.specs.Listing.{Listing}
@@ -24,29 +25,29 @@ use Rattle.attester.specs.Extract.{extracted, extract}
 use Rattle.attester.specs.Extract as extraction
 use Rattle.codes.specs.Text.{accepted, reading}
 use Rattle.codes.specs.Read.{Read}
-use Rattle.tree.specs.Edition.{hash, width, most}
+use Rattle.tree.specs.Edition.{width, most}
 use Rattle.attestation.specs.Attest.{Attested}
 use Rattle.attestation.specs.Verify.{Verified, verdict-of}
 
--- d is an accepted list's digest, and a the attestation that is issued for the key x under that list
-pub record Issued (list : List Octets) (x d a : Octets) : Type 0 where
+-- in a profile, d is an accepted list's digest, and a the attestation that is issued for the key x under that list
+pub record Issued (profile : ℕ) (list : List Octets) (x d a : Octets) : Type 0 where
   pub listing : Listing width most list
   pub key-size : length x ≡ 20
-  pub digest-is : d ≡ digest hash list
-  pub is : a ≡ attestation hash list x
+  pub digest-is : d ≡ digest (label profile) list
+  pub is : a ≡ attestation (label profile) list x
 
 -- "a verifier that refuses all"
-abbrev pub Refuses-all : Type 0
-Refuses-all = (list : List Octets) (x d a : Octets) → Issued list x d a → (m : ℕ) × (p : ℕ) × Verified x d a (verdict.Refused m p)
+abbrev pub Refuses-all : ℕ → Type 0
+Refuses-all profile = (list : List Octets) (x d a : Octets) → Issued profile list x d a → (m : ℕ) × (p : ℕ) × Verified profile x d a (verdict.Refused m p)
 
 -- "or says Absent to all"
-abbrev pub Absent-to-all : Type 0
-Absent-to-all = (list : List Octets) (x d a : Octets) → Issued list x d a → Verified x d a verdict.Absent
+abbrev pub Absent-to-all : ℕ → Type 0
+Absent-to-all profile = (list : List Octets) (x d a : Octets) → Issued profile list x d a → Verified profile x d a verdict.Absent
 
 -- "an issuer that always answers 6", even where there is room for all that we issue
-abbrev pub Always-6 : Type 0
-Always-6 = (list : List Octets) (x out : Octets) → Listing width most list → length x ≡ 20 → 586 ≤ length out
-    → (out′ : Octets) × Attested x (flatten list) out (Refused too-short 0) out′
+abbrev pub Always-6 : ℕ → Type 0
+Always-6 profile = (list : List Octets) (x out : Octets) → Listing width most list → length x ≡ 20 → 586 ≤ length out
+    → (out′ : Octets) × Attested profile x (flatten list) out (Refused too-short 0) out′
 
 -- "a list reader that states a count and writes no keys"
 abbrev pub Writes-no-keys : Type 0
@@ -78,8 +79,8 @@ Foot-suffices H = (list : List Octets) (x : Octets) → Listing width most list 
     → foot-only H x (digest H list) (attestation H list x) ≡ cond (listed x list) present absent
 
 -- that it keeps the promise there
-abbrev pub Foot-verifies : Type 0
-Foot-verifies = (list : List Octets) (x d a : Octets) → Issued list x d a → Verified x d a (verdict-of (foot-only hash x d a))
+abbrev pub Foot-verifies : ℕ → Type 0
+Foot-verifies profile = (list : List Octets) (x d a : Octets) → Issued profile list x d a → Verified profile x d a (verdict-of (foot-only (label profile) x d a))
 
 -- a label function to compute with: a record's first 32 octets
 abbrev pub front : Octets → Octets
@@ -103,16 +104,18 @@ abbrev pub Shows-one-pair : (Octets → Octets) → Octets → Octets → Type 0
 Shows-one-pair H r s = (x d a b : Octets) → Contradictory H x d a b
     → (i : ℕ) × (extract H width x d a b 85 85 ≡ extracted record { passed = i; first = r; second = s })
 
--- SHA-256 offers no contradiction, and none of its labels is computed here. So the last are of other label functions too, or say that
--- the wrong program would give a collision.
+-- In a profile that is not known every call is refused with 17, and a verifier that refuses all is right; so the first ask for a known
+-- one. None of SHA-256's labels is computed here: the verifier that ignores the levels above is rejected over a label function that can
+-- be computed with, and in a profile it would give a collision, which the full one does not offer; the extractors are rejected over one
+-- under which there are contradictions.
 pub record Wrong-programs-rejected : Type 0 where
-  pub refuses-all : Refuses-all → ⊥
-  pub absent-to-all : Absent-to-all → ⊥
-  pub always-6 : Always-6 → ⊥
+  pub refuses-all : (profile : ℕ) → known profile ≡ true → Refuses-all profile → ⊥
+  pub absent-to-all : (profile : ℕ) → known profile ≡ true → Absent-to-all profile → ⊥
+  pub always-6 : (profile : ℕ) → known profile ≡ true → Always-6 profile → ⊥
   pub writes-no-keys : Writes-no-keys → ⊥
   pub another-count : Another-count → ⊥
   pub foot-suffices : Foot-suffices front → ⊥
   pub foot-suffices-collides : (H : Octets → Octets) → Labels H → Foot-suffices H → Collision H
-  pub foot-verifies-collides : Foot-verifies → Collision hash
+  pub foot-verifies-collides : (profile : ℕ) → known profile ≡ true → Foot-verifies profile → Collision (label profile)
   pub does-nothing : Does-nothing zeros → ⊥
   pub shows-one-pair : (r s : Octets) → Shows-one-pair zeros r s → ⊥

@@ -1,11 +1,6 @@
--- Where the theory gets its label function, its entries' width and its limit: the one place to look.
+-- Where the theory gets its entries' width and its limit: the one place to look. Its label function is `label profile`, of
+-- `profile`.
 use Prim.Native.Nat.{ℕ}
-use Rattle.octets.specs.Order.{Octets}
-use Rattle.sha256.specs.Fips180.{sha256}
-
--- 01, "Tree, node record, digest": "A node's label is the SHA-256 of its record"
-abbrev pub hash : Octets → Octets
-hash r = sha256 r
 
 -- 01, "Keys and codes": "A key is any 20 octets"; an entry is a key and nothing else
 abbrev pub width : ℕ

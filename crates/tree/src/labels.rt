@@ -3,7 +3,8 @@ ghost use mathlib.Core.Path.{_≡_};
 ghost use mathlib.Core.List.{_∷_, _++_};
 ghost use Prim.Native.Nat.{_/_};
 ghost use lib.ListN.{length};
-ghost use Rattle.tree.specs.Edition.{hash, width};
+ghost use Rattle.profile.specs.Profile as specs;
+ghost use Rattle.tree.specs.Edition.{width};
 ghost use Rattle.tree.specs.Labels.{flag-of, label-of};
 
 // Octet 0 of a node record: 1 if there is a left child plus 2 if there is a right one.
@@ -26,10 +27,10 @@ pub fn node_record(flag: u8, left: &[u8], key: &[u8], right: &[u8]) -> [u8; 85]
     r
 }
 
-// The label of the tree of these keys, 20 octets each: of its root, whose subtrees are labelled by the same rule; 32 zeros
+// The label in a profile of the tree of these keys, 20 octets each: of its root, whose subtrees are labelled by the same rule; 32 zeros
 // where there are no keys.
-pub fn label(keys: &[u8]) -> [u8; 32]
-    ensures { λ r. ⌜ r ≡ label-of hash width (now (keys .entry)) ⌝ }
+pub fn label(profile: u32, keys: &[u8]) -> [u8; 32]
+    ensures { λ r. ⌜ r ≡ label-of (specs.label profile) width (now (keys .entry)) ⌝ }
 {
     let n = keys.len() / 20;
     if n == 0 {
@@ -38,8 +39,8 @@ pub fn label(keys: &[u8]) -> [u8; 32]
     let before = n / 2;
     let after = n - before - 1;
     let at = 20 * before;
-    let left = label(&keys[..at]);
-    let right = label(&keys[at + 20..]);
+    let left = label(profile, &keys[..at]);
+    let right = label(profile, &keys[at + 20..]);
     let f = flag(0 < before, 0 < after);
-    sha256::sha256(&node_record(f, &left, &keys[at..at + 20], &right))
+    profile::label(profile, &node_record(f, &left, &keys[at..at + 20], &right))
 }

@@ -4,6 +4,7 @@
 use super::comparison::{octets_of_hex, Comparison, Expected};
 use super::face::Function;
 use super::readings::{key, keys, LIST_F};
+use second::profile::FULL;
 use Expected::{Accepted, Refused};
 
 pub fn there(label: &str) -> Vec<u8> {
@@ -53,7 +54,7 @@ pub fn run(comparison: &mut Comparison) {
         ("6 last", key("3-4"), &f, 0, Refused(6, 0)),
     ];
     for (name, x, list, room, expected) in examples {
-        comparison.example(name, Function::Attest, &[&x, list], &[room], &expected);
+        comparison.example(name, Function::Attest(FULL), &[&x, list], &[room], &expected);
     }
 }
 

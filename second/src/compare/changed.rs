@@ -10,7 +10,7 @@ use super::readings::{key, LIST_F};
 use second::attestation::Attestation;
 use second::list::Key;
 use second::sha256::Label;
-use second::tree::{Node, SHA_256};
+use second::tree::{LabelFunction, Node};
 
 /// An attestation that is accepted for x under d.
 struct Sound {
@@ -21,44 +21,48 @@ struct Sound {
 
 pub fn run(comparison: &mut Comparison) {
     for sound in small(comparison) {
-        every_octet(comparison, &sound, &(1..=255).collect::<Vec<u8>>());
+        let masks: Vec<u8> = (1..=255).step_by(comparison.stride()).collect();
+        every_octet(comparison, &sound, &masks);
         every_cut(comparison, &sound);
         every_octet_more(comparison, &sound);
         put_in_and_taken_out(comparison, &sound);
     }
     for sound in large(comparison) {
-        every_octet(comparison, &sound, &[0x01, 0x02, 0x80, 0xff]);
+        let masks: Vec<u8> = [0xff, 0x01, 0x02, 0x80].into_iter().step_by(comparison.stride()).collect();
+        every_octet(comparison, &sound, &masks);
         every_cut(comparison, &sound);
         every_octet_more(comparison, &sound);
         some_octets(comparison, &sound);
     }
 }
 
-fn issued(keys: &[Key], x: Key) -> Sound {
-    let root = Node::root(SHA_256, keys).expect("there is a key");
+fn issued(hash: LabelFunction, keys: &[Key], x: Key) -> Sound {
+    let root = Node::root(hash, keys).expect("there is a key");
     Sound { x, d: root.label, octets: Attestation::issued(&root, &x).octets() }
 }
 
-fn of_draft(draft: &Draft) -> Sound {
-    Sound { x: draft.x, d: draft.own_digest().expect("a sound form"), octets: draft.octets() }
+fn of_draft(hash: LabelFunction, draft: &Draft) -> Sound {
+    Sound { x: draft.x, d: draft.own_digest(hash).expect("a sound form"), octets: draft.octets() }
 }
 
 /// List F's examples, a list of one key, and one of two levels that no list gives.
 fn small(comparison: &mut Comparison) -> Vec<Sound> {
+    let hash = comparison.label_function();
     let code = |code: &str| Key::try_from(key(code)).unwrap();
     let f = LIST_F.map(code);
-    let of_f = ["3-4", "1-1", "3-39", "1", "A-3"].map(|x| issued(&f, code(x)));
-    let one = issued(&[[0xff; 20]], [0xff; 20]);
-    let two_levels = of_draft(&Draft::drawn(&mut comparison.random, 2, SIDES[1], 4));
+    let of_f = ["3-4", "1-1", "3-39", "1", "A-3"].map(|x| issued(hash, &f, code(x)));
+    let one = issued(hash, &[[0xff; 20]], [0xff; 20]);
+    let two_levels = of_draft(hash, &Draft::drawn(&mut comparison.random, 2, SIDES[1], 4));
     of_f.into_iter().chain([one, two_levels]).collect()
 }
 
 /// The deepest and the longest over 3,000 keys; and 32 levels with every label, or none,
 /// that may be there.
 fn large(comparison: &mut Comparison) -> Vec<Sound> {
+    let hash = comparison.label_function();
     let keys = keys(&mut comparison.random, 3_000);
-    let of_list = [deepest(&keys), longest(&keys)].map(|x| issued(&keys, x));
-    let mut draft = |side, there| of_draft(&Draft::drawn(&mut comparison.random, 32, side, there));
+    let of_list = [deepest(&keys), longest(&keys)].map(|x| issued(hash, &keys, x));
+    let mut draft = |side, there| of_draft(hash, &Draft::drawn(&mut comparison.random, 32, side, there));
     let of_32 = SIDES.map(|side| draft(side, 4));
     let bare = draft(SIDES[0], 0);
     of_list.into_iter().chain(of_32).chain([bare]).collect()
@@ -82,7 +86,7 @@ fn every_octet(comparison: &mut Comparison, sound: &Sound, masks: &[u8]) {
 fn every_cut(comparison: &mut Comparison, sound: &Sound) {
     for len in 0..=sound.octets.len() {
         let inputs = [Input::whole(&sound.x), Input::whole(&sound.d), Input::cut(&sound.octets, len)];
-        comparison.call("each cut", Function::Verify, &inputs, &[]);
+        comparison.call("each cut", Function::Verify(comparison.profile), &inputs, &[]);
         comparison.verify("each cut, other octets behind", &sound.x, &sound.d, &sound.octets[..len]);
     }
 }

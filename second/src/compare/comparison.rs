@@ -6,6 +6,8 @@ use super::lent::{Input, Lent};
 use super::random::Random;
 use super::tally::Tally;
 use second::answer::{refuse, Accepted, Outcome};
+use second::profile::{label_function, DRILL, FULL};
+use second::tree::LabelFunction;
 
 const SHOWN_IN_FULL: u64 = 5;
 
@@ -13,7 +15,7 @@ const SHOWN_IN_FULL: u64 = 5;
 /// written, or number and place.
 #[derive(Clone, Debug)]
 pub enum Expected {
-    Accepted(u32, Vec<u8>),
+    Accepted(u64, Vec<u8>),
     Refused(u16, u32),
 }
 
@@ -59,14 +61,44 @@ pub struct Comparison {
     pub tally: Tally,
     pub cases: u64,
     pub differences: u64,
-    /// The length of the longest attestation that was accepted.
-    pub longest_taken: usize,
+    /// The profile under which what runs now is compared.
+    pub profile: u32,
+    /// The length of the longest attestation that was accepted, by profile.
+    pub longest_taken: [usize; 2],
 }
 
 impl Comparison {
     pub fn new(seed: u64) -> Comparison {
         let (random, tally) = (Random::new(seed), Tally::new());
-        Comparison { random, tally, cases: 0, differences: 0, longest_taken: 0 }
+        Comparison { random, tally, cases: 0, differences: 0, profile: FULL, longest_taken: [0; 2] }
+    }
+
+    /// What a label is under the present profile.
+    pub fn label_function(&self) -> LabelFunction {
+        label_function(self.profile).expect("a known profile")
+    }
+
+    /// Of what takes long one in so many is run. Under the drill's profile that is fewer, for
+    /// all but the label is the same work again.
+    pub fn stride(&self) -> usize {
+        if self.profile == FULL {
+            1
+        } else {
+            4
+        }
+    }
+
+    /// Of the two profiles the one that is not the present one.
+    pub fn other_profile(&self) -> u32 {
+        if self.profile == FULL {
+            DRILL
+        } else {
+            FULL
+        }
+    }
+
+    pub fn other_label_function(&self) -> LabelFunction {
+        label_function(self.other_profile()).expect("a known profile")
     }
 
     /// Ours against the reference, for a function of one input and one output.
@@ -75,7 +107,7 @@ impl Comparison {
     }
 
     /// Ours against the reference; answers the reference's value if that accepts.
-    pub fn call(&mut self, name: &str, function: Function, inputs: &[Input], rooms: &[usize]) -> Option<u32> {
+    pub fn call(&mut self, name: &str, function: Function, inputs: &[Input], rooms: &[usize]) -> Option<u64> {
         let outcome = self.reference(function, inputs, rooms);
         self.ours(name, function, inputs, rooms, &outcome);
         outcome.ok().map(|accepted| accepted.value)
@@ -83,13 +115,13 @@ impl Comparison {
 
     /// Ours against the reference's verdict.
     pub fn verify(&mut self, name: &str, x: &[u8], d: &[u8], attestation: &[u8]) {
-        self.call(name, Function::Verify, &[x, d, attestation].map(Input::whole), &[]);
+        self.call(name, Function::Verify(self.profile), &[x, d, attestation].map(Input::whole), &[]);
     }
 
     /// Ours against the reference's extractor, with two buffers of 85 octets.
     pub fn extract(&mut self, name: &str, x: &[u8], d: &[u8], [first, second]: [&[u8]; 2]) {
         let inputs = [x, d, first, second].map(Input::whole);
-        self.call(name, Function::Extract, &inputs, &[85, 85]);
+        self.call(name, Function::Extract(self.profile), &inputs, &[85, 85]);
     }
 
     /// Ours and the reference against an answer written down by hand.
@@ -110,13 +142,27 @@ impl Comparison {
         self.ours(name, function, &lent, rooms, &expected.outcome());
     }
 
+    /// Ours against an outcome that is known without asking the reference's function.
+    pub fn known(
+        &mut self,
+        name: &str,
+        function: Function,
+        inputs: &[Input],
+        rooms: &[usize],
+        known: &Outcome,
+    ) {
+        self.tally.count(function, known);
+        self.ours(name, function, inputs, rooms, known);
+    }
+
     /// The reference's outcome, counted.
     fn reference(&mut self, function: Function, inputs: &[Input], rooms: &[usize]) -> Outcome {
         let inputs: Vec<&[u8]> = inputs.iter().map(|input| input.octets).collect();
         let outcome = function.reference(&inputs, rooms);
-        self.tally.count(function.name(), &outcome);
-        if let (Function::Verify, Ok(_)) = (function, &outcome) {
-            self.longest_taken = self.longest_taken.max(inputs[2].len());
+        self.tally.count(function, &outcome);
+        if let (Function::Verify(profile), Ok(_)) = (function, &outcome) {
+            let longest = &mut self.longest_taken[profile as usize];
+            *longest = inputs[2].len().max(*longest);
         }
         outcome
     }
@@ -144,7 +190,7 @@ impl Comparison {
         faults.extend(differences("output", &outputs, &outputs_after));
         faults.extend(differences("input", &lent, &lent_after));
         if !faults.is_empty() {
-            let call = format!("{} with outputs of {rooms:?} octets", function.name());
+            let call = format!("{function:?} with outputs of {rooms:?} octets");
             let inputs: Vec<&[u8]> = inputs.iter().map(|input| input.octets).collect();
             self.differs(name, &call, &inputs, &faults.join("; "));
         }

@@ -48,6 +48,12 @@ pub fn pairs(hash: LabelFunction, random: &mut Random) -> Vec<Pair> {
     alike.iter().flat_map(|alike| alike.pairs(hash, random)).collect()
 }
 
+/// A few, with small lists and with few levels above them and many.
+pub fn some(hash: LabelFunction, random: &mut Random) -> Vec<Pair> {
+    let alike = [0, 0, 1, 2, 11, 30, 31].map(|levels| small(hash, random, levels));
+    alike.iter().flat_map(|alike| alike.pairs(hash, random)).collect()
+}
+
 /// Two lists whose trees have one label, the first level of the trees where they differ, and
 /// levels of no list above both.
 struct Alike {
@@ -79,7 +85,7 @@ impl Alike {
         } else {
             let passed = self.above.len() + self.level;
             let records = order.map(|at| met(&roots[at], x, self.level));
-            Expected::Accepted(passed as u32, records.concat())
+            Expected::Accepted(passed as u64, records.concat())
         };
         Pair { x: *x, d: last_label(hash, x, &attestations[0]), attestations, verdicts, expected }
     }

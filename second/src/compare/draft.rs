@@ -5,7 +5,7 @@ use super::key_lists::keys;
 use super::random::Random;
 use second::list::Key;
 use second::sha256::Label;
-use second::tree::SHA_256;
+use second::tree::LabelFunction;
 use second::{form, verdict};
 use std::cmp::Ordering;
 
@@ -112,9 +112,9 @@ impl Draft {
     }
 
     /// The digest that it hashes to, if its form is sound.
-    pub fn own_digest(&self) -> Option<Label> {
+    pub fn own_digest(&self, hash: LabelFunction) -> Option<Label> {
         let attestation = form::read(&self.octets()).ok()?;
-        Some(verdict::last_label(SHA_256, &self.x, &attestation))
+        Some(verdict::last_label(hash, &self.x, &attestation))
     }
 }
 

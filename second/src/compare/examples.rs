@@ -5,7 +5,8 @@
 use super::comparison::{octets_of_hex, Comparison, Expected};
 use super::face::Function;
 use super::readings::{key, keys, readings, Reading, LIST_F};
-use super::{attestations, extractions, verdicts};
+use super::{attestations, drill_examples, extractions, short_labels, verdicts};
+use second::profile::FULL;
 use Expected::{Accepted, Refused};
 
 pub fn run(comparison: &mut Comparison) {
@@ -18,6 +19,8 @@ pub fn run(comparison: &mut Comparison) {
     attestations::run(comparison);
     verdicts::run(comparison);
     extractions::run(comparison);
+    short_labels::run(comparison);
+    drill_examples::run(comparison);
 }
 
 fn key_lists(comparison: &mut Comparison) {
@@ -54,7 +57,7 @@ fn key_lists(comparison: &mut Comparison) {
         ("output of 0, no keys", vec![], 0, Refused(1, 0)),
     ];
     for (name, octets, room, expected) in examples {
-        comparison.example(name, Function::Digest, &[&octets], &[room], &expected);
+        comparison.example(name, Function::Digest(FULL), &[&octets], &[room], &expected);
     }
 }
 

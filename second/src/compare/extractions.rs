@@ -6,6 +6,7 @@ use super::comparison::{octets_of_hex, Comparison, Expected};
 use super::examples::DIGEST_F;
 use super::face::Function;
 use super::readings::key;
+use second::profile::FULL;
 use Expected::Refused;
 
 /// Name, code, first and second attestation, number and place.
@@ -16,10 +17,10 @@ pub fn run(comparison: &mut Comparison) {
     for example in one_refused().into_iter().chain(none_or_both_refused()) {
         let (name, x, first, second, (number, place)) = example;
         let inputs: [&[u8]; 4] = [&key(x), &d, &first, &second];
-        comparison.example(name, Function::Extract, &inputs, &[85, 85], &Refused(number, place));
+        comparison.example(name, Function::Extract(FULL), &inputs, &[85, 85], &Refused(number, place));
     }
     let inputs: [&[u8]; 4] = [&key("3-4"), &[7; 32], &of_3_4(), &of_3_4()];
-    comparison.example("a digest of no list", Function::Extract, &inputs, &[85, 85], &Refused(10, 1));
+    comparison.example("a digest of no list", Function::Extract(FULL), &inputs, &[85, 85], &Refused(10, 1));
     sizes(comparison, &d);
 }
 
@@ -82,7 +83,7 @@ fn sizes(comparison: &mut Comparison, d: &[u8]) {
         {
             let inputs: [&[u8]; 4] = [&x[..x_len], &d[..d_len], &first, &second];
             let rooms = [first_room, second_room];
-            comparison.example("1 first", Function::Extract, &inputs, &rooms, &Refused(1, 0));
+            comparison.example("1 first", Function::Extract(FULL), &inputs, &rooms, &Refused(1, 0));
         }
     }
 }

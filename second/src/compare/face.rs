@@ -1,26 +1,33 @@
 //! The C face of the library under comparison, and its packed result.
 
 use second::answer::{Accepted, Outcome};
+use second::drill::{drill, Drilled};
 use second::extractor::Extracted;
-use second::tree::SHA_256;
+use second::profile::{attest, digest, extract, verify, DRILL, FULL};
 use second::verdict::Verdict;
 
-#[derive(Clone, Copy, Debug, PartialEq, Eq, PartialOrd, Ord)]
+/// A function with the number that it takes besides what is lent: the profile, or the bound of
+/// a drill.
+#[derive(Clone, Copy, Debug, PartialEq, Eq)]
 pub enum Function {
     Hash,
     ReadList,
-    Digest,
-    Attest,
-    Verify,
-    Extract,
+    Digest(u32),
+    Attest(u32),
+    Verify(u32),
+    Extract(u32),
+    Drill(u32),
 }
 
+// The header's uint32_t is declared as u64 here: `in_its_register` says why.
 #[link(name = "sagebutton", kind = "static")]
 extern "C" {
     fn sagebutton_hash(msg: *const u8, msg_len: usize, out: *mut u8, out_len: usize) -> u64;
     fn sagebutton_read_list(text: *const u8, text_len: usize, out: *mut u8, out_len: usize) -> u64;
-    fn sagebutton_digest(keys: *const u8, keys_len: usize, out: *mut u8, out_len: usize) -> u64;
+    fn sagebutton_digest(profile: u64, keys: *const u8, keys_len: usize, out: *mut u8, out_len: usize)
+        -> u64;
     fn sagebutton_attest(
+        profile: u64,
         key: *const u8,
         key_len: usize,
         keys: *const u8,
@@ -29,6 +36,7 @@ extern "C" {
         out_len: usize,
     ) -> u64;
     fn sagebutton_verify(
+        profile: u64,
         key: *const u8,
         key_len: usize,
         digest: *const u8,
@@ -37,6 +45,7 @@ extern "C" {
         att_len: usize,
     ) -> u64;
     fn sagebutton_extract(
+        profile: u64,
         key: *const u8,
         key_len: usize,
         digest: *const u8,
@@ -50,6 +59,21 @@ extern "C" {
         out2: *mut u8,
         out2_len: usize,
     ) -> u64;
+    fn sagebutton_drill(
+        text: *const u8,
+        text_len: usize,
+        bound: u64,
+        out1: *mut u8,
+        out1_len: usize,
+        out2: *mut u8,
+        out2_len: usize,
+    ) -> u64;
+}
+
+/// A C caller may leave anything in the upper half of the register that hands over a uint32_t,
+/// so this does.
+fn in_its_register(number: u32) -> u64 {
+    0x5a5a_0001 << 32 | u64::from(number)
 }
 
 impl Function {
@@ -57,10 +81,26 @@ impl Function {
         match self {
             Function::Hash => "hash",
             Function::ReadList => "read_list",
-            Function::Digest => "digest",
-            Function::Attest => "attest",
-            Function::Verify => "verify",
-            Function::Extract => "extract",
+            Function::Digest(_) => "digest",
+            Function::Attest(_) => "attest",
+            Function::Verify(_) => "verify",
+            Function::Extract(_) => "extract",
+            Function::Drill(_) => "drill",
+        }
+    }
+
+    /// Which profile, for those that take one.
+    pub fn profile(self) -> &'static str {
+        match self {
+            Function::Hash | Function::ReadList | Function::Drill(_) => "",
+            Function::Digest(profile)
+            | Function::Attest(profile)
+            | Function::Verify(profile)
+            | Function::Extract(profile) => match profile {
+                FULL => "full",
+                DRILL => "drill",
+                _ => "unknown",
+            },
         }
     }
 
@@ -78,16 +118,26 @@ impl Function {
                 (Function::ReadList, &[(t, t_len)], &[(out, room)]) => {
                     sagebutton_read_list(t, t_len, out, room)
                 }
-                (Function::Digest, &[(l, l_len)], &[(out, room)]) => sagebutton_digest(l, l_len, out, room),
-                (Function::Attest, &[(x, x_len), (l, l_len)], &[(out, room)]) => {
-                    sagebutton_attest(x, x_len, l, l_len, out, room)
+                (Function::Digest(profile), &[(l, l_len)], &[(out, room)]) => {
+                    sagebutton_digest(in_its_register(profile), l, l_len, out, room)
                 }
-                (Function::Verify, &[(x, x_len), (d, d_len), (a, a_len)], &[]) => {
-                    sagebutton_verify(x, x_len, d, d_len, a, a_len)
+                (Function::Attest(profile), &[(x, x_len), (l, l_len)], &[(out, room)]) => {
+                    sagebutton_attest(in_its_register(profile), x, x_len, l, l_len, out, room)
                 }
-                (Function::Extract, &[(x, x_len), (d, d_len), ref shown @ ..], &[(o, o_len), (p, p_len)]) => {
+                (Function::Verify(profile), &[(x, x_len), (d, d_len), (a, a_len)], &[]) => {
+                    sagebutton_verify(in_its_register(profile), x, x_len, d, d_len, a, a_len)
+                }
+                (
+                    Function::Extract(profile),
+                    &[(x, x_len), (d, d_len), ref shown @ ..],
+                    &[(o, o_len), (p, p_len)],
+                ) => {
+                    let profile = in_its_register(profile);
                     let [(a, a_len), (b, b_len)] = first_and_second(shown);
-                    sagebutton_extract(x, x_len, d, d_len, a, a_len, b, b_len, o, o_len, p, p_len)
+                    sagebutton_extract(profile, x, x_len, d, d_len, a, a_len, b, b_len, o, o_len, p, p_len)
+                }
+                (Function::Drill(bound), &[(t, t_len)], &[(o, o_len), (p, p_len)]) => {
+                    sagebutton_drill(t, t_len, in_its_register(bound), o, o_len, p, p_len)
                 }
                 _ => unreachable!("{} doesn't take so many", self.name()),
             }
@@ -99,15 +149,15 @@ impl Function {
         match (self, inputs, rooms) {
             (Function::Hash, [message], [room]) => second::sha256::hash(message, *room),
             (Function::ReadList, [text], [room]) => second::list::read_list(text, *room),
-            (Function::Digest, [keys], [room]) => second::tree::digest(SHA_256, keys, *room),
-            (Function::Attest, [key, keys], [room]) => second::attestation::attest(SHA_256, key, keys, *room),
-            (Function::Verify, [key, digest, attestation], []) => {
-                second::verdict::verify(SHA_256, key, digest, attestation).map(accepted)
+            (Function::Digest(profile), [keys], [room]) => digest(profile, keys, *room),
+            (Function::Attest(profile), [key, keys], [room]) => attest(profile, key, keys, *room),
+            (Function::Verify(profile), [key, digest, attestation], []) => {
+                verify(profile, key, digest, attestation).map(judged)
             }
-            (Function::Extract, [key, digest, shown @ ..], [one, other]) => {
-                let shown = first_and_second(shown);
-                second::extractor::extract(SHA_256, key, digest, shown, [*one, *other]).map(extracted)
+            (Function::Extract(profile), [key, digest, shown @ ..], [one, other]) => {
+                extract(profile, key, digest, first_and_second(shown), [*one, *other]).map(extracted)
             }
+            (Function::Drill(bound), [text], [one, other]) => drill(text, bound, [*one, *other]).map(drilled),
             _ => unreachable!("{} doesn't take so many", self.name()),
         }
     }
@@ -119,7 +169,7 @@ fn first_and_second<T: Copy>(shown: &[T]) -> [T; 2] {
 }
 
 /// The header's numbers for a verdict; nothing is written.
-fn accepted(verdict: Verdict) -> Accepted {
+pub fn judged(verdict: Verdict) -> Accepted {
     let value = match verdict {
         Verdict::Present => PRESENT,
         Verdict::Absent => ABSENT,
@@ -129,17 +179,29 @@ fn accepted(verdict: Verdict) -> Accepted {
 
 /// Answers the levels passed; the first record is written to the first output, the second
 /// to the second.
-pub fn extracted(extracted: Extracted) -> Accepted {
-    Accepted { value: extracted.passed, written: extracted.records.concat() }
+fn extracted(extracted: Extracted) -> Accepted {
+    Accepted { value: u64::from(extracted.passed), written: extracted.records.concat() }
 }
 
-pub const PRESENT: u32 = 1;
-pub const ABSENT: u32 = 0;
+/// Answers the number, or none; the records are written as the extractor does.
+pub fn drilled(drilled: Option<Drilled>) -> Accepted {
+    match drilled {
+        Some(Drilled { number, records }) => Accepted { value: u64::from(number), written: records.concat() },
+        None => Accepted { value: NONE, written: Vec::new() },
+    }
+}
 
-/// Bits 0 to 31 the value or the place, bits 32 to 47 zero, bits 48 to 63 the number.
+pub const PRESENT: u64 = 1;
+pub const ABSENT: u64 = 0;
+
+/// The header's only answer that has bit 32.
+pub const NONE: u64 = 1 << 32;
+
+/// Bits 0 to 31 the value or the place, bits 32 to 47 zero but in a drill's none, bits 48 to 63
+/// the number.
 pub fn packed(outcome: &Outcome) -> u64 {
     match outcome {
-        Ok(accepted) => u64::from(accepted.value),
+        Ok(accepted) => accepted.value,
         Err(refusal) => u64::from(refusal.number) << 48 | u64::from(refusal.place),
     }
 }
@@ -147,6 +209,7 @@ pub fn packed(outcome: &Outcome) -> u64 {
 pub fn told(packed: u64) -> String {
     let (number, between, low) = (packed >> 48, (packed >> 32) & 0xffff, packed & 0xffff_ffff);
     match (number, between) {
+        _ if packed == NONE => "none".to_string(),
         (0, 0) => format!("accepted {low}"),
         (_, 0) => format!("refused {number} {low}"),
         _ => format!("number {number}, value or place {low}, bits 32 to 47 hold {between}"),

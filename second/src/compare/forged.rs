@@ -24,7 +24,8 @@ pub fn run(comparison: &mut Comparison) {
 
 /// Shows a draft under the digest that it hashes to, or under any.
 pub fn show(comparison: &mut Comparison, name: &str, draft: &Draft) {
-    let digest = draft.own_digest().unwrap_or_else(|| any_digest(&mut comparison.random));
+    let digest =
+        draft.own_digest(comparison.label_function()).unwrap_or_else(|| any_digest(&mut comparison.random));
     comparison.verify(name, &draft.x, &digest, &draft.octets());
 }
 
@@ -39,7 +40,8 @@ fn passing(comparison: &mut Comparison) {
             for there in [0, 2, 4, 4] {
                 let draft = Draft::drawn(&mut comparison.random, how_many, side, there);
                 show(comparison, "passing", &draft);
-                let digest = draft.own_digest().expect("a drawn one has a sound form");
+                let digest =
+                    draft.own_digest(comparison.label_function()).expect("a drawn one has a sound form");
                 let mut another = digest;
                 another[comparison.random.below(32)] ^= 1 << comparison.random.below(8);
                 comparison.verify("passing, one bit of d off", &draft.x, &another, &draft.octets());
@@ -52,7 +54,7 @@ fn passing(comparison: &mut Comparison) {
 fn each_forgery(comparison: &mut Comparison, how_many: usize, there: usize) {
     let side = comparison.random.pick(&SIDES);
     let sound = Draft::drawn(&mut comparison.random, how_many, side, there);
-    let digest = sound.own_digest().expect("a drawn one has a sound form");
+    let digest = sound.own_digest(comparison.label_function()).expect("a drawn one has a sound form");
     for (name, damage) in FORGERIES {
         let mut damaged = sound.clone();
         damage(&mut damaged, &mut comparison.random);
@@ -63,10 +65,11 @@ fn each_forgery(comparison: &mut Comparison, how_many: usize, there: usize) {
 
 /// Several damages in one: the order of the refusals decides, and the smallest j.
 fn several_forgeries(comparison: &mut Comparison) {
+    let hash = comparison.label_function();
     for _ in 0..30_000 {
         let random = &mut comparison.random;
         let mut draft = Draft::any(random);
-        let digest = draft.own_digest().expect("a drawn one has a sound form");
+        let digest = draft.own_digest(hash).expect("a drawn one has a sound form");
         for _ in 0..random.between(2, 4) {
             let (_, damage) = FORGERIES[random.below(FORGERIES.len())];
             if may_be_forged(&draft) {
@@ -75,7 +78,7 @@ fn several_forgeries(comparison: &mut Comparison) {
         }
         let (mut x, mut d, mut octets) = (draft.x.to_vec(), digest.to_vec(), draft.octets());
         if random.one_in(2) {
-            d = draft.own_digest().unwrap_or(digest).to_vec();
+            d = draft.own_digest(hash).unwrap_or(digest).to_vec();
         }
         if random.one_in(10) {
             octets.truncate(random.below(octets.len() + 1));
@@ -117,10 +120,11 @@ fn nothing(comparison: &mut Comparison) {
 
 /// Lengths around 65,535, and those that counting in 16 bits would take for the sound one.
 fn far_too_long(comparison: &mut Comparison) {
+    let hash = comparison.label_function();
     for how_many in [1, 2, 12, 32] {
         for side in SIDES {
             let draft = Draft::drawn(&mut comparison.random, how_many, side, 4);
-            let (sound, digest) = (draft.octets(), draft.own_digest().unwrap());
+            let (sound, digest) = (draft.octets(), draft.own_digest(hash).unwrap());
             for len in [1_732, 65_535, 65_536, 65_537, 65_536 + sound.len(), 131_072 + sound.len()] {
                 for filler in [0x00, 0x01, 0xff] {
                     let mut long = sound.clone();
@@ -133,7 +137,7 @@ fn far_too_long(comparison: &mut Comparison) {
         }
     }
     let draft = Draft::drawn(&mut comparison.random, 32, SIDES[1], 4);
-    let (sound, digest) = (draft.octets(), draft.own_digest().unwrap());
+    let (sound, digest) = (draft.octets(), draft.own_digest(hash).unwrap());
     let megabyte = [sound, vec![0; 1 << 20]].concat();
     comparison.verify("a megabyte follows", &draft.x, &digest, &megabyte);
     comparison.verify("a megabyte of zeros", &draft.x, &digest, &vec![0; 1 << 20]);

@@ -7,7 +7,8 @@ use super::key_lists::keys;
 use super::lent::Input;
 use second::attestation::Attestation;
 use second::list::Key;
-use second::tree::{Node, SHA_256};
+use second::profile::SHA_256;
+use second::tree::Node;
 
 const LARGE: [usize; 24] = [
     71, 100, 127, 128, 129, 191, 192, 255, 256, 257, 511, 512, 513, 1_023, 1_024, 1_025, 1_535, 1_536, 2_047,
@@ -21,7 +22,7 @@ pub fn run(comparison: &mut Comparison) {
         let others = asked::some(&mut comparison.random, &keys);
         issue_all(comparison, &keys, &[asked, others].concat());
     }
-    for how_many in LARGE {
+    for how_many in LARGE.into_iter().rev().step_by(comparison.stride()) {
         let keys = keys(&mut comparison.random, how_many);
         let mut asked = vec![deepest(&keys), longest(&keys)];
         let others = asked::some(&mut comparison.random, &keys);
@@ -43,6 +44,7 @@ pub fn longest(keys: &[Key]) -> Key {
     first_with_most(keys, |attestation| attestation.octets().len())
 }
 
+/// Of what is measured nothing depends on what a label is.
 fn first_with_most(keys: &[Key], measure: fn(&Attestation) -> usize) -> Key {
     let root = Node::root(SHA_256, keys).expect("there is a key");
     let measured = |key: &&Key| measure(&Attestation::issued(&root, key));
@@ -51,38 +53,50 @@ fn first_with_most(keys: &[Key], measure: fn(&Attestation) -> usize) -> Key {
 
 fn issue_all(comparison: &mut Comparison, keys: &[Key], asked: &[Key]) {
     let list = keys.concat();
-    let digest = our_digest(&list);
+    let digest = our_digest(comparison.profile, &list);
     for x in asked {
         issue(comparison, x, &list);
         let listed = keys.binary_search(x).is_ok();
-        let attestation = our_attestation(x, &list);
+        let attestation = our_attestation(comparison.profile, x, &list);
         let verdict = Expected::Accepted(if listed { PRESENT } else { ABSENT }, Vec::new());
-        comparison.example("issued and judged", Function::Verify, &[x, &digest, &attestation], &[], &verdict);
+        comparison.example(
+            "issued and judged",
+            Function::Verify(comparison.profile),
+            &[x, &digest, &attestation],
+            &[],
+            &verdict,
+        );
         if !listed {
             same_as_foot(comparison, x, &list, &attestation);
         }
     }
 }
 
-fn our_digest(list: &[u8]) -> Vec<u8> {
+fn our_digest(profile: u32, list: &[u8]) -> Vec<u8> {
     let mut digest = vec![0; 32];
-    Function::Digest.ours(&[list], &mut [&mut digest]);
+    Function::Digest(profile).ours(&[list], &mut [&mut digest]);
     digest
 }
 
 /// If it is refused, zeros, which no verdict accepts.
-fn our_attestation(x: &Key, list: &[u8]) -> Vec<u8> {
+fn our_attestation(profile: u32, x: &Key, list: &[u8]) -> Vec<u8> {
     let mut octets = vec![0; 586];
-    let answer = Function::Attest.ours(&[x, list], &mut [&mut octets]);
+    let answer = Function::Attest(profile).ours(&[x, list], &mut [&mut octets]);
     octets.truncate(answer as usize);
     octets
 }
 
 /// An absent key's attestation is that of its foot's key.
 fn same_as_foot(comparison: &mut Comparison, x: &Key, list: &[u8], attestation: &[u8]) {
-    let expected = Expected::Accepted(attestation.len() as u32, attestation.to_vec());
+    let expected = Expected::Accepted(attestation.len() as u64, attestation.to_vec());
     let foot = attestation.get(1..21).unwrap_or(x);
-    comparison.example("the foot's key", Function::Attest, &[foot, list], &[586], &expected);
+    comparison.example(
+        "the foot's key",
+        Function::Attest(comparison.profile),
+        &[foot, list],
+        &[586],
+        &expected,
+    );
 }
 
 /// Into buffers far longer, of exactly the length, one less, and any; answers the length.
@@ -105,12 +119,14 @@ fn issue(comparison: &mut Comparison, x: &Key, list: &[u8]) -> usize {
 /// Answers the length, 0 if refused.
 pub fn attest(comparison: &mut Comparison, name: &str, x: &[u8], list: &[u8], room: usize) -> usize {
     let inputs = [Input::whole(x), Input::whole(list)];
-    comparison.call(name, Function::Attest, &inputs, &[room]).map_or(0, |len| len as usize)
+    comparison
+        .call(name, Function::Attest(comparison.profile), &inputs, &[room])
+        .map_or(0, |len| len as usize)
 }
 
 /// Keys at even distances across long lists.
 fn across(comparison: &mut Comparison) {
-    for how_many in [1_500, 2_999, 3_000] {
+    for how_many in [3_000, 2_999, 1_500].into_iter().step_by(comparison.stride()) {
         let keys = keys(&mut comparison.random, how_many);
         for x in keys.iter().step_by(how_many / 40) {
             attest(comparison, "across a long list", x, &keys.concat(), 586);

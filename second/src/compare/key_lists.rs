@@ -37,7 +37,11 @@ fn digest(comparison: &mut Comparison, name: &str, octets: &[u8]) {
         3 => random.below(100),
         _ => 32,
     };
-    comparison.case(name, Function::Digest, octets, room);
+    digest_into(comparison, name, octets, room);
+}
+
+fn digest_into(comparison: &mut Comparison, name: &str, octets: &[u8], room: usize) {
+    comparison.case(name, Function::Digest(comparison.profile), octets, room);
 }
 
 /// So many different keys, ascending, in one of several looks.
@@ -129,7 +133,7 @@ fn each_damage(comparison: &mut Comparison, how_many: usize) {
 
 fn every_size(comparison: &mut Comparison) {
     for room in [0, 1, 31, 32, 33, 64, 85] {
-        comparison.case("no keys", Function::Digest, &[], room);
+        digest_into(comparison, "no keys", &[], room);
     }
     for _ in 0..200 {
         digest(comparison, "no keys", &[]);
@@ -138,7 +142,7 @@ fn every_size(comparison: &mut Comparison) {
         (1..=300).chain([511, 512, 513, 1_023, 1_024, 1_025, 2_047, 2_048, 2_049, 2_998, 2_999, 3_000])
     {
         let octets = keys(&mut comparison.random, how_many).concat();
-        comparison.case("each size", Function::Digest, &octets, 32);
+        digest_into(comparison, "each size", &octets, 32);
     }
 }
 
@@ -149,12 +153,12 @@ fn every_index(comparison: &mut Comparison) {
         for index in (1..how_many).step_by(1 + how_many / 200) {
             let mut equal = sound.clone();
             equal[index] = equal[index - 1];
-            comparison.case("equal at each index", Function::Digest, &equal.concat(), 32);
+            digest_into(comparison, "equal at each index", &equal.concat(), 32);
             equal.swap(how_many - 2, how_many - 1);
-            comparison.case("equal at each index, last two swapped", Function::Digest, &equal.concat(), 32);
+            digest_into(comparison, "equal at each index, last two swapped", &equal.concat(), 32);
             let mut swapped = sound.clone();
             swapped.swap(index - 1, index);
-            comparison.case("swapped at each index", Function::Digest, &swapped.concat(), 32);
+            digest_into(comparison, "swapped at each index", &swapped.concat(), 32);
         }
     }
 }
@@ -169,24 +173,14 @@ fn every_octet_of_a_key(comparison: &mut Comparison) {
             let mut below: Key = comparison.random.octets(20).try_into().unwrap();
             let mut above = below;
             (below[at], above[at]) = (low, high);
-            comparison.case("one octet apart, ascending", Function::Digest, &[below, above].concat(), 32);
-            comparison.case("one octet apart, descending", Function::Digest, &[above, below].concat(), 32);
+            digest_into(comparison, "one octet apart, ascending", &[below, above].concat(), 32);
+            digest_into(comparison, "one octet apart, descending", &[above, below].concat(), 32);
             // Every later octet the other way round: only the first difference counts.
             for later in at + 1..20 {
                 (below[later], above[later]) = (0xff, 0x00);
             }
-            comparison.case(
-                "first difference counts, ascending",
-                Function::Digest,
-                &[below, above].concat(),
-                32,
-            );
-            comparison.case(
-                "first difference counts, descending",
-                Function::Digest,
-                &[above, below].concat(),
-                32,
-            );
+            digest_into(comparison, "first difference counts, ascending", &[below, above].concat(), 32);
+            digest_into(comparison, "first difference counts, descending", &[above, below].concat(), 32);
         }
     }
 }
@@ -208,11 +202,11 @@ fn far_too_long(comparison: &mut Comparison) {
             (0..how_many as u128).flat_map(|n| [&[0; 4][..], &n.to_be_bytes()].concat()).collect();
         for cut in [0, 1, 19] {
             for room in [31, 32] {
-                comparison.case("far too long", Function::Digest, &counter[..counter.len() - cut], room);
+                digest_into(comparison, "far too long", &counter[..counter.len() - cut], room);
             }
         }
         for len in [65_536, 65_540, 131_072, 131_080] {
-            comparison.case("far too long", Function::Digest, &counter[..len.min(counter.len())], 32);
+            digest_into(comparison, "far too long", &counter[..len.min(counter.len())], 32);
         }
     }
 }

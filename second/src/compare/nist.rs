@@ -28,7 +28,7 @@ fn messages(comparison: &mut Comparison, name: &str, file: &str, how_many: usize
     for ((bits, message), digest) in lens.iter().zip(&messages).zip(&digests) {
         let len = bits.parse::<usize>().expect("a length") / 8;
         let message = &octets_of_hex(message)[..len];
-        let expected = Expected::Accepted(len as u32, octets_of_hex(digest));
+        let expected = Expected::Accepted(len as u64, octets_of_hex(digest));
         comparison.example(&format!("{name}, {len} octets"), Function::Hash, &[message], &[32], &expected);
     }
 }

@@ -31,7 +31,12 @@ fn every_key_size(comparison: &mut Comparison) {
         for size in [0, 1, 19, 20, 21, 32, 40] {
             for room in [0, 87, 88, 600] {
                 let inputs = [Input::cut(&x, size), Input::whole(list)];
-                comparison.call("each size of the key", Function::Attest, &inputs, &[room]);
+                comparison.call(
+                    "each size of the key",
+                    Function::Attest(comparison.profile),
+                    &inputs,
+                    &[room],
+                );
             }
         }
     }
@@ -57,7 +62,7 @@ fn every_cut(comparison: &mut Comparison) {
     for len in 0..=list.len() {
         for room in [0, 200] {
             let inputs = [Input::whole(&x), Input::cut(&list, len)];
-            comparison.call("each cut of the list", Function::Attest, &inputs, &[room]);
+            comparison.call("each cut of the list", Function::Attest(comparison.profile), &inputs, &[room]);
         }
     }
 }

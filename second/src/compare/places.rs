@@ -45,7 +45,7 @@ fn every_count_of_keys(comparison: &mut Comparison) {
     }
     for how_many in [1, 2, 3, 12, 31, 32] {
         let mut draft = of_keys(comparison, how_many);
-        let digest = draft.own_digest().unwrap();
+        let digest = draft.own_digest(comparison.label_function()).unwrap();
         for count in 0..=255 {
             draft.count = count;
             comparison.verify("each count before a sound rest", &draft.x, &digest, &draft.octets());
@@ -57,7 +57,7 @@ fn every_count_of_keys(comparison: &mut Comparison) {
 fn every_optional_count(comparison: &mut Comparison) {
     for how_many in [1, 2, 3, 12, 32] {
         let sound = of_keys(comparison, how_many);
-        let digest = sound.own_digest().unwrap();
+        let digest = sound.own_digest(comparison.label_function()).unwrap();
         let step = if how_many < 4 { 1 } else { 23 };
         for at in 0..sound.optionals.len() {
             for count in (2..=255).step_by(step).chain([3, 128, 254, 255]) {
@@ -75,7 +75,7 @@ fn every_optional_count(comparison: &mut Comparison) {
 fn every_siblings_count(comparison: &mut Comparison) {
     for how_many in 1..=32 {
         let sound = of_keys(comparison, how_many);
-        let digest = sound.own_digest().unwrap();
+        let digest = sound.own_digest(comparison.label_function()).unwrap();
         for count in 0..=255 {
             let mut draft = sound.clone();
             draft.siblings_count = count;
@@ -90,11 +90,11 @@ fn every_siblings_count(comparison: &mut Comparison) {
 fn every_end(comparison: &mut Comparison) {
     for how_many in (1..=32).chain([1, 2, 3].repeat(20)) {
         let draft = of_keys(comparison, how_many);
-        let (digest, octets) = (draft.own_digest().unwrap(), draft.octets());
+        let (digest, octets) = (draft.own_digest(comparison.label_function()).unwrap(), draft.octets());
         for end in draft.ends() {
             for len in [end - 1, end] {
                 let inputs = [Input::whole(&draft.x), Input::whole(&digest), Input::cut(&octets, len)];
-                comparison.call("each end", Function::Verify, &inputs, &[]);
+                comparison.call("each end", Function::Verify(comparison.profile), &inputs, &[]);
             }
         }
     }
@@ -138,7 +138,10 @@ fn every_label_of_zeros(comparison: &mut Comparison) {
                 let (mut absent, mut zeros) = (sound.clone(), sound.clone());
                 absent.optionals[at] = Optional::ABSENT;
                 zeros.optionals[at] = Optional::there([0; 32]);
-                let digests = [absent.own_digest().unwrap(), zeros.own_digest().unwrap()];
+                let digests = [
+                    absent.own_digest(comparison.label_function()).unwrap(),
+                    zeros.own_digest(comparison.label_function()).unwrap(),
+                ];
                 for digest in digests {
                     comparison.verify("an absent label", &absent.x, &digest, &absent.octets());
                     comparison.verify("a label of zeros", &zeros.x, &digest, &zeros.octets());
@@ -181,7 +184,7 @@ fn every_size(comparison: &mut Comparison) {
         child.optionals[LEFT] = Optional::there([7; 32]);
         let mut above = sound.clone();
         above.keys[how_many - 1] = above.x;
-        let digest = sound.own_digest().unwrap();
+        let digest = sound.own_digest(comparison.label_function()).unwrap();
         let form = [&sound.octets()[..], &[0]].concat();
         for octets in [sound.octets(), child.octets(), above.octets(), form, Vec::new()] {
             each_size(comparison, &sound.x, &digest, &octets);
@@ -195,7 +198,7 @@ fn each_size(comparison: &mut Comparison, x: &Key, digest: &Label, octets: &[u8]
     for key_size in KEY_SIZES {
         for digest_size in DIGEST_SIZES {
             let inputs = [Input::cut(&x, key_size), Input::cut(&digest, digest_size), Input::whole(octets)];
-            comparison.call("each size of x and d", Function::Verify, &inputs, &[]);
+            comparison.call("each size of x and d", Function::Verify(comparison.profile), &inputs, &[]);
         }
     }
 }

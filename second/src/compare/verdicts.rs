@@ -6,6 +6,7 @@ use super::comparison::{octets_of_hex, Comparison, Expected};
 use super::examples::{DIGEST_3_4, DIGEST_F};
 use super::face::{Function, ABSENT, PRESENT};
 use super::readings::{key, keys};
+use second::profile::FULL;
 use Expected::{Accepted, Refused};
 
 pub fn run(comparison: &mut Comparison) {
@@ -18,7 +19,7 @@ pub fn run(comparison: &mut Comparison) {
 }
 
 fn judge(comparison: &mut Comparison, name: &str, x: &[u8], d: &[u8], octets: &[u8], expected: Expected) {
-    comparison.example(name, Function::Verify, &[x, d, octets], &[], &expected);
+    comparison.example(name, Function::Verify(FULL), &[x, d, octets], &[], &expected);
 }
 
 fn present() -> Expected {

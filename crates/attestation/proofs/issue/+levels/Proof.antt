@@ -2,7 +2,7 @@
 use Prim.Native.Nat.{suc}
 use native.Mathlib.Omega.{arith}
 use mathlib.Core.Path.{sym, ap}
-use Rattle.attestation.proofs.IssueLaws.{path-low, on-keyed, height-here, height-on}
+use Rattle.attestation.proofs.IssueLaws.{bare, path-low, on-keyed, height-here, height-on}
 use lib.ListN.{length}
 use Prim.Native.Nat.{ℕ, _<_}
 use borrow.Fn.Kinds.{In}
@@ -34,7 +34,7 @@ levels-returns : (t : ℕ) → levels-lts.Need-returns (rs t) (levels-at t) leve
 levels-returns t c =
     let s = c .before .before .before .before in
     let on = c .before .onward in
-    ap suc (sym (height-here (s .args .x .now) (s .args .keys .now) (s .pre .1) (on .result .now) (on .ensures) (c .if1 .taken)))
+    λ H. ap suc (sym (height-here (s .args .x .now) (s .args .keys .now) (s .pre .1) (on .result .now) (on .ensures) H (c .if1 .taken)))
 
 levels-levels-requires : (t : ℕ) → levels-lts.Need-levels-requires (rs t) (levels-at t) levels.Post
 levels-levels-requires t c κs =
@@ -48,13 +48,13 @@ levels-add-result t c =
     let s = c .before .before .before .before .before in
     let on = c .before .before .onward in
     let k = on-keyed (s .args .x .now) (s .args .keys .now) (s .pre .1) (on .result .now) (on .ensures) (c .before .if1 .left) in
-    omega (arith, c .levels .ensures, path-low (s .args .x .now) (on .result .now) (k .0))
+    omega (arith, c .levels .ensures bare, path-low (s .args .x .now) (on .result .now) (k .0) bare)
 
 levels-returns-2 : (t : ℕ) → levels-lts.Need-returns-2 (rs t) (levels-at t) levels.Post
 levels-returns-2 t c =
     let s = c .before .before .before .before .before in
     let on = c .before .before .onward in
-    omega (arith, c .levels .ensures, height-on (s .args .x .now) (s .args .keys .now) (s .pre .1) (on .result .now) (on .ensures) (c .before .if1 .left))
+    λ H. omega (arith, c .levels .ensures H, height-on (s .args .x .now) (s .args .keys .now) (s .pre .1) (on .result .now) (on .ensures) H (c .before .if1 .left))
 
 pub +levels-spec : {M : Type 1} → statement M
 +levels-spec = close μ-levels λ t. levels-lts.spec (rs t)

@@ -1,6 +1,6 @@
 -- What a level adds, and what the path where the search goes on takes. The number of octets falls.
 use native.Mathlib.Omega.{arith}
-use Rattle.attestation.proofs.IssueLaws.{child-bit, path-short, on-keyed, levels-length-here, levels-length-on}
+use Rattle.attestation.proofs.IssueLaws.{bare, child-bit, path-short, on-keyed, levels-length-here, levels-length-on}
 use lib.ListN.{length}
 use Prim.Native.Nat.{ℕ, _<_}
 use borrow.Fn.Kinds.{In}
@@ -63,7 +63,7 @@ levels-length-returns : (t : ℕ) → levels-length-lts.Need-returns (rs t) (lev
 levels-length-returns t c =
     let s = c .before .before .before .before .before .before .before .before in
     let on = c .before .before .before .before .before .onward in
-    levels-length-here (s .args .x .now) (s .args .keys .now) (s .pre .1) (on .result .now) (on .ensures) (c .before .before .before .before .if1 .taken) (c .before .before .before .before2 .ensures) (c .before .after .ensures) (c .before .before .child-bit .ensures .0) (c .child-bit2 .ensures .0)
+    λ H. levels-length-here (s .args .x .now) (s .args .keys .now) (s .pre .1) (on .result .now) (on .ensures) H (c .before .before .before .before .if1 .taken) (c .before .before .before .before2 .ensures) (c .before .after .ensures) (c .before .before .child-bit .ensures .0 H) (c .child-bit2 .ensures .0 H)
 
 levels-length-aside-requires : (t : ℕ) → levels-length-lts.Need-aside-requires (rs t) (levels-length-at t) levels-length.Post
 levels-length-aside-requires t c κs = c .before .before .before .before .pre .1
@@ -89,13 +89,13 @@ levels-length-add-result-4 t c =
     let s = c .before .before .before .before .before .before .before in
     let on = c .before .before .before .before .onward in
     let k = on-keyed (s .args .x .now) (s .args .keys .now) (s .pre .1) (on .result .now) (on .ensures) (c .before .before .before .if1 .left) in
-    omega (arith, c .before .child-bit3 .ensures .1, c .levels-length .ensures, path-short (s .args .x .now) (on .result .now) (k .0))
+    omega (arith, c .before .child-bit3 .ensures .1, c .levels-length .ensures bare, path-short (s .args .x .now) (on .result .now) (k .0) bare)
 
 levels-length-returns-2 : (t : ℕ) → levels-length-lts.Need-returns-2 (rs t) (levels-length-at t) levels-length.Post
 levels-length-returns-2 t c =
     let s = c .before .before .before .before .before .before .before in
     let on = c .before .before .before .before .onward in
-    levels-length-on (s .args .x .now) (s .args .keys .now) (s .pre .1) (on .result .now) (on .ensures) (c .before .before .before .if1 .left) (c .before .before .aside .ensures) (c .before .child-bit3 .ensures .0) (c .levels-length .ensures)
+    λ H. levels-length-on (s .args .x .now) (s .args .keys .now) (s .pre .1) (on .result .now) (on .ensures) H (c .before .before .before .if1 .left) (c .before .before .aside .ensures) (c .before .child-bit3 .ensures .0 H) (c .levels-length .ensures H)
 
 pub +levels-length-spec : {M : Type 1} → statement M
 +levels-length-spec = close μ-levels-length λ t. levels-length-lts.spec (rs t)

@@ -2,7 +2,7 @@
 use native.Mathlib.Omega.{arith}
 use mathlib.Core.Path.{sym, ap, _∙_}
 use Rattle.attestation.proofs.JoinLaws.{wrote-same, room-first, room-second, wrote-both}
-use Rattle.attestation.proofs.IssueLaws.{on-keyed, keys-here, keys-on}
+use Rattle.attestation.proofs.IssueLaws.{bare, on-keyed, keys-here, keys-on}
 use lib.ListN.{length}
 use Prim.Native.Nat.{ℕ, _<_}
 use borrow.Fn.Kinds.{In}
@@ -40,7 +40,7 @@ put-keys-put-requires : (t : ℕ) → put-keys-lts.Need-put-requires (rs t) (put
 put-keys-put-requires t c κs =
     let s = c .before .before .before .before .before .before .before in
     let on = c .before .before .before .onward in
-    omega (arith, s .pre .1 .1, ap length (keys-here (s .args .x .now) (s .args .keys .now) (s .pre .1 .0) (on .result .now) (on .ensures) (c .before .before .if1 .taken)), ap length (c .middle .ensures))
+    omega (arith, s .pre .1 .1 bare, ap length (keys-here (s .args .x .now) (s .args .keys .now) (s .pre .1 .0) (on .result .now) (on .ensures) bare (c .before .before .if1 .taken)), ap length (c .middle .ensures))
 
 put-keys-same-length : (t : ℕ) → put-keys-lts.Need-same-length (rs t) (put-keys-at t) put-keys.Post
 put-keys-same-length t c = c .before .before .put .kept .0
@@ -49,14 +49,14 @@ put-keys-returns : (t : ℕ) → put-keys-lts.Need-returns (rs t) (put-keys-at t
 put-keys-returns t c =
     let s = c .before .before .before .before .before .before .before .before .before .before in
     let on = c .before .before .before .before .before .before .onward in
-    wrote-same (keys-here (s .args .x .now) (s .args .keys .now) (s .pre .1 .0) (on .result .now) (on .ensures) (c .before .before .before .before .before .if1 .taken) ∙ sym (c .before .before .before .middle .ensures)) (c .before .before .put .ensures)
+    λ H. wrote-same (keys-here (s .args .x .now) (s .args .keys .now) (s .pre .1 .0) (on .result .now) (on .ensures) H (c .before .before .before .before .before .if1 .taken) ∙ sym (c .before .before .before .middle .ensures)) (c .before .before .put .ensures)
 
 put-keys-put-keys-requires : (t : ℕ) → put-keys-lts.Need-put-keys-requires (rs t) (put-keys-at t) put-keys.Post
 put-keys-put-keys-requires t c κs =
     let s = c .before .before .before .before .before .before in
     let on = c .before .before .onward in
     let k = on-keyed (s .args .x .now) (s .args .keys .now) (s .pre .1 .0) (on .result .now) (on .ensures) (c .before .if1 .left) in
-    (omega (arith, s .pre .0, k .1), (k .0, room-first (s .args .at) (keys-on (s .args .x .now) (s .args .keys .now) (s .pre .1 .0) (on .result .now) (on .ensures) (c .before .if1 .left)) (s .pre .1 .1)))
+    (omega (arith, s .pre .0, k .1), (k .0, λ H. room-first (s .args .at) (keys-on (s .args .x .now) (s .args .keys .now) (s .pre .1 .0) (on .result .now) (on .ensures) H (c .before .if1 .left)) (s .pre .1 .1 H)))
 
 put-keys-middle-requires-2 : (t : ℕ) → put-keys-lts.Need-middle-requires-2 (rs t) (put-keys-at t) put-keys.Post
 put-keys-middle-requires-2 t c κs = c .before .before .before .before .before .before .before .before .before .before .pre .1 .0
@@ -65,7 +65,7 @@ put-keys-put-requires-2 : (t : ℕ) → put-keys-lts.Need-put-requires-2 (rs t) 
 put-keys-put-requires-2 t c κs =
     let s = c .before .before .before .before .before .before .before .before .before .before .before in
     let on = c .before .before .before .before .before .before .before .onward in
-    room-second (s .args .at) (keys-on (s .args .x .now) (s .args .keys .now) (s .pre .1 .0) (on .result .now) (on .ensures) (c .before .before .before .before .before .before .if1 .left)) (c .middle2 .ensures) (c .before .before .before .before .put-keys .ensures) (s .pre .1 .1)
+    room-second (s .args .at) (keys-on (s .args .x .now) (s .args .keys .now) (s .pre .1 .0) (on .result .now) (on .ensures) bare (c .before .before .before .before .before .before .if1 .left)) (c .middle2 .ensures) (c .before .before .before .before .put-keys .ensures bare) (s .pre .1 .1 bare)
 
 put-keys-same-length-2 : (t : ℕ) → put-keys-lts.Need-same-length-2 (rs t) (put-keys-at t) put-keys.Post
 put-keys-same-length-2 t c = c .before .before .put2 .kept .0 ∙ c .before .before .before .before .before .before .before .put-keys .kept .0
@@ -74,7 +74,7 @@ put-keys-returns-2 : (t : ℕ) → put-keys-lts.Need-returns-2 (rs t) (put-keys-
 put-keys-returns-2 t c =
     let s = c .before .before .before .before .before .before .before .before .before .before .before .before .before .before in
     let on = c .before .before .before .before .before .before .before .before .before .before .onward in
-    wrote-both (s .args .at) (keys-on (s .args .x .now) (s .args .keys .now) (s .pre .1 .0) (on .result .now) (on .ensures) (c .before .before .before .before .before .before .before .before .before .if1 .left)) (c .before .before .before .middle2 .ensures) (c .before .before .before .before .before .before .before .put-keys .ensures) (c .before .before .put2 .ensures) (s .pre .1 .1)
+    λ H. wrote-both (s .args .at) (keys-on (s .args .x .now) (s .args .keys .now) (s .pre .1 .0) (on .result .now) (on .ensures) H (c .before .before .before .before .before .before .before .before .before .if1 .left)) (c .before .before .before .middle2 .ensures) (c .before .before .before .before .before .before .before .put-keys .ensures H) (c .before .before .put2 .ensures) (s .pre .1 .1 H)
 
 pub +put-keys-spec : {M : Type 1} → statement M
 +put-keys-spec = close μ-put-keys λ t. put-keys-lts.spec (rs t)

@@ -1,6 +1,7 @@
 -- Each end of the code is an end of the judgement, step by step.
 use mathlib.Core.Path.{sym, _∙_}
 use native.Mathlib.Omega.{arith}
+use Rattle.profile.specs.Profile.{label}
 use Rattle.attestation.proofs.ShownLaws.{laid}
 use Rattle.attestation.proofs.JudgeLaws.{judged-hidden, judged-fault, judged-other, judged-present, judged-absent}
 use borrow.Author.Needs.{needs}
@@ -13,27 +14,27 @@ hidden-requires c κs = search needs
 returns : tie.Need-returns
 returns c =
     let s = c .before .before .before .before .before in
-    judged-hidden (s .args .x .now) (s .args .d .now) (s .args .att .now) (c .before .hidden .ensures) (c .if1 .taken)
+    judged-hidden (label (s .args .profile)) (s .args .x .now) (s .args .d .now) (s .args .att .now) (c .before .hidden .ensures) (c .if1 .taken)
 
 fault-requires : tie.Need-fault-requires
 fault-requires c κs = search needs
 
-cast-t8 : tie.Need-cast-t8
-cast-t8 c = search needs
+cast-t9 : tie.Need-cast-t9
+cast-t9 c = search needs
 
 returns-2 : tie.Need-returns-2
 returns-2 c =
     let s = c .before .before .before .before .before .before .before in
-    judged-fault (s .args .x .now) (s .args .d .now) (s .args .att .now) (c .before .before .before .hidden .ensures) (c .before .before .if1 .left) (c .before .fault .ensures .0) (c .if2 .taken)
+    judged-fault (label (s .args .profile)) (s .args .x .now) (s .args .d .now) (s .args .att .now) (c .before .before .before .hidden .ensures) (c .before .before .if1 .left) (c .before .fault .ensures .0) (c .if2 .taken)
 
 record-requires : tie.Need-record-requires
 record-requires c κs = let s = c .before .before .before .before .before .before .before in (s .pre, omega (arith, laid (s .args .att .now) (s .pre) .some-key))
 
-slice-aggregate-sha256 : tie.Need-slice-aggregate-sha256
-slice-aggregate-sha256 c = search needs
+slice-aggregate-label : tie.Need-slice-aggregate-label
+slice-aggregate-label c = search needs
 
-sha256-requires : tie.Need-sha256-requires
-sha256-requires c κs = search needs
+label-requires : tie.Need-label-requires
+label-requires c κs = search needs
 
 slice-aggregate-same : tie.Need-slice-aggregate-same
 slice-aggregate-same c = search needs
@@ -50,19 +51,19 @@ same-requires-2 c κs = search needs
 returns-3 : tie.Need-returns-3
 returns-3 c =
     let s = c .before .before .before .before .before .before .before .before .before .before .before .before .before .before .before .before in
-    judged-present (s .args .x .now) (s .args .d .now) (s .args .att .now) (c .before .before .before .before .before .before .before .before .before .before .before .before .hidden .ensures) (c .before .before .before .before .before .before .before .before .before .before .before .if1 .left) (c .before .before .before .before .before .before .before .before .before .before .fault .ensures .0) (omega (arith, c .before .before .before .before .before .before .before .before .before .if2 .left)) (c .before .before .before .before .before .before .before .before .«record» .ensures) (c .before .before .before .before .before .before .sha256 .ensures)
+    judged-present (label (s .args .profile)) (s .args .x .now) (s .args .d .now) (s .args .att .now) (c .before .before .before .before .before .before .before .before .before .before .before .before .hidden .ensures) (c .before .before .before .before .before .before .before .before .before .before .before .if1 .left) (c .before .before .before .before .before .before .before .before .before .before .fault .ensures .0) (omega (arith, c .before .before .before .before .before .before .before .before .before .if2 .left)) (c .before .before .before .before .before .before .before .before .«record» .ensures) (c .before .before .before .before .before .before .label .ensures)
     (sym (c .before .before .before .before .same .ensures) ∙ c .before .before .before .if3 .taken) (s .pre) (c .before .before .key .ensures) (sym (c .before .same2 .ensures) ∙ c .if4 .taken)
 
 returns-4 : tie.Need-returns-4
 returns-4 c =
     let s = c .before .before .before .before .before .before .before .before .before .before .before .before .before .before .before .before in
-    judged-absent (s .args .x .now) (s .args .d .now) (s .args .att .now) (c .before .before .before .before .before .before .before .before .before .before .before .before .hidden .ensures) (c .before .before .before .before .before .before .before .before .before .before .before .if1 .left) (c .before .before .before .before .before .before .before .before .before .before .fault .ensures .0) (omega (arith, c .before .before .before .before .before .before .before .before .before .if2 .left)) (c .before .before .before .before .before .before .before .before .«record» .ensures) (c .before .before .before .before .before .before .sha256 .ensures)
+    judged-absent (label (s .args .profile)) (s .args .x .now) (s .args .d .now) (s .args .att .now) (c .before .before .before .before .before .before .before .before .before .before .before .before .hidden .ensures) (c .before .before .before .before .before .before .before .before .before .before .before .if1 .left) (c .before .before .before .before .before .before .before .before .before .before .fault .ensures .0) (omega (arith, c .before .before .before .before .before .before .before .before .before .if2 .left)) (c .before .before .before .before .before .before .before .before .«record» .ensures) (c .before .before .before .before .before .before .label .ensures)
     (sym (c .before .before .before .before .same .ensures) ∙ c .before .before .before .if3 .taken) (s .pre) (c .before .before .key .ensures) (sym (c .before .same2 .ensures) ∙ c .if4 .left)
 
 returns-5 : tie.Need-returns-5
 returns-5 c =
     let s = c .before .before .before .before .before .before .before .before .before .before .before .before .before in
-    judged-other (s .args .x .now) (s .args .d .now) (s .args .att .now) (c .before .before .before .before .before .before .before .before .before .hidden .ensures) (c .before .before .before .before .before .before .before .before .if1 .left) (c .before .before .before .before .before .before .before .fault .ensures .0) (omega (arith, c .before .before .before .before .before .before .if2 .left)) (c .before .before .before .before .before .«record» .ensures) (c .before .before .before .sha256 .ensures)
+    judged-other (label (s .args .profile)) (s .args .x .now) (s .args .d .now) (s .args .att .now) (c .before .before .before .before .before .before .before .before .before .hidden .ensures) (c .before .before .before .before .before .before .before .before .if1 .left) (c .before .before .before .before .before .before .before .fault .ensures .0) (omega (arith, c .before .before .before .before .before .before .if2 .left)) (c .before .before .before .before .before .«record» .ensures) (c .before .before .before .label .ensures)
     (sym (c .before .same .ensures) ∙ c .if3 .left)
 
 pub judge-spec : {M : Type 1} → statement M
@@ -72,11 +73,11 @@ judge-spec =
     hidden-requires
     returns
     fault-requires
-    cast-t8
+    cast-t9
     returns-2
     record-requires
-    slice-aggregate-sha256
-    sha256-requires
+    slice-aggregate-label
+    label-requires
     slice-aggregate-same
     same-requires
     key-requires

@@ -4,6 +4,7 @@ use mathlib.Core.Path.{_≡_, sym}
 use lib.ListN.{length}
 use Prim.Native.Nat.{_+_, _-_, _≤_}
 use native.Mathlib.Omega.{arith}
+use Rattle.profile.specs.Profile.{label}
 use borrow.Author.Needs.{needs}
 use Rattle.attestation.proofs.ShownLaws.{laid, key-length}
 use Rattle.attestation.proofs.JudgeLaws.{Risen, risen-start, risen-inside, risen-next, risen-end}
@@ -11,10 +12,10 @@ use Rattle.attestation.proofs.judge.record.Statement.{statement}
 use Rattle.attestation.proofs.judge.record.Tie as tie
 
 abbrev Inv-loop : tie.InvT-loop
-Inv-loop att x below top at₀ r₀ j₀ at r j = (j ≤ top) × (length r ≡ 85) × Risen x att j at r
+Inv-loop profile att x below top at₀ r₀ j₀ at r j = (j ≤ top) × (length r ≡ 85) × Risen (label profile) x att j at r
 
 abbrev μ-loop : tie.MeasureT-loop
-μ-loop att x below top at₀ r₀ j₀ at r j = top - j
+μ-loop profile att x below top at₀ r₀ j₀ at r j = top - j
 
 shared-slice-read-top : tie.Need-shared-slice-read-top Inv-loop μ-loop
 shared-slice-read-top c = let s = c .before .before .before in omega (arith, laid (s .args .att .now) (s .pre .0) .left-in)
@@ -35,16 +36,16 @@ foot-record-requires : tie.Need-foot-record-requires Inv-loop μ-loop
 foot-record-requires c κs = c .before .before .before .before .pre .0
 
 loop-holds : tie.Need-loop-holds Inv-loop μ-loop
-loop-holds c = let s = c .before .before .before .before .before in (omega arith, search needs, risen-start (s .args .x .now) (s .args .att .now) (s .pre .0) (c .before .siblings .ensures) (c .foot-record .ensures))
+loop-holds c = let s = c .before .before .before .before .before in (omega arith, search needs, risen-start (label (s .args .profile)) (s .args .x .now) (s .args .att .now) (s .pre .0) (c .before .siblings .ensures) (c .foot-record .ensures))
 
 add-j : tie.Need-add-j Inv-loop μ-loop
 add-j c = let s = c .before .before .before .before .before .before .before in omega (arith, laid (s .args .att .now) (s .pre .0) .few-keys)
 
-slice-aggregate-sha256 : tie.Need-slice-aggregate-sha256 Inv-loop μ-loop
-slice-aggregate-sha256 c = sym (c .before .before .loop .inv .1)
+slice-aggregate-label : tie.Need-slice-aggregate-label Inv-loop μ-loop
+slice-aggregate-label c = sym (c .before .before .loop .inv .1)
 
-sha256-requires : tie.Need-sha256-requires Inv-loop μ-loop
-sha256-requires c κs = omega (arith, c .before .before .loop .inv .1)
+label-requires : tie.Need-label-requires Inv-loop μ-loop
+label-requires c κs = omega (arith, c .before .before .loop .inv .1)
 
 key-requires : tie.Need-key-requires Inv-loop μ-loop
 key-requires c κs = let s = c .before .before .before .before .before .before .before .before .before in omega (arith, laid (s .args .att .now) (s .pre .0) .keys-in)
@@ -56,14 +57,14 @@ above-requires : tie.Need-above-requires Inv-loop μ-loop
 above-requires c κs =
     let s = c .before .before .before .before .before .before .before .before .before .before .before in
     let l = c .before .before .before .before .before .loop in
-    let h = risen-inside (s .args .x .now) (s .args .att .now) (l .j) (l .at) (l .r) (l .inv .2) (omega (arith, c .before .before .before .before .loop-test .taken)) in
+    let h = risen-inside (label (s .args .profile)) (s .args .x .now) (s .args .att .now) (l .j) (l .at) (l .r) (l .inv .2) (omega (arith, c .before .before .before .before .loop-test .taken)) in
     (h .inside, h .ends, rw (c .before .key .ensures) (key-length (s .args .att .now) (l .j + 1) (omega (arith, laid (s .args .att .now) (s .pre .0) .keys-in))), search needs)
 
 behind-requires : tie.Need-behind-requires Inv-loop μ-loop
 behind-requires c κs =
     let s = c .before .before .before .before .before .before .before .before .before .before .before .before in
     let l = c .before .before .before .before .before .before .loop in
-    risen-inside (s .args .x .now) (s .args .att .now) (l .j) (l .at) (l .r) (l .inv .2) (omega (arith, c .before .before .before .before .before .loop-test .taken)) .inside
+    risen-inside (label (s .args .profile)) (s .args .x .now) (s .args .att .now) (l .j) (l .at) (l .r) (l .inv .2) (omega (arith, c .before .before .before .before .before .loop-test .taken)) .inside
 
 loop-less : tie.Need-loop-less Inv-loop μ-loop
 loop-less c = omega arith
@@ -72,13 +73,13 @@ loop-again : tie.Need-loop-again Inv-loop μ-loop
 loop-again c =
     let s = c .before .before .before .before .before .before .before .before .before .before .before .before .before in
     let l = c .before .before .before .before .before .before .before .loop in
-    (omega arith, search needs, risen-next (s .args .x .now) (s .args .att .now) (l .j) (l .at) (l .r) (l .inv .2) (omega (arith, c .before .before .before .before .before .before .loop-test .taken)) (c .before .before .before .key .ensures) (c .before .before .before .before .sha256 .ensures) (c .before .above .ensures) (c .behind .ensures))
+    (omega arith, search needs, risen-next (label (s .args .profile)) (s .args .x .now) (s .args .att .now) (l .j) (l .at) (l .r) (l .inv .2) (omega (arith, c .before .before .before .before .before .before .loop-test .taken)) (c .before .before .before .key .ensures) (c .before .before .before .before .label .ensures) (c .before .above .ensures) (c .behind .ensures))
 
 returns : tie.Need-returns Inv-loop μ-loop
 returns c =
     let s = c .before .before .before .before .before .before .before in
     let l = c .before .loop in
-    risen-end (s .args .x .now) (s .args .att .now) (l .j) (l .at) (l .r) (l .inv .2) (s .args .below) (omega (arith, c .loop-test .left))
+    risen-end (label (s .args .profile)) (s .args .x .now) (s .args .att .now) (l .j) (l .at) (l .r) (l .inv .2) (s .args .below) (omega (arith, c .loop-test .left))
 
 pub record-spec : {M : Type 1} → statement M
 record-spec =
@@ -94,8 +95,8 @@ record-spec =
     foot-record-requires
     loop-holds
     add-j
-    slice-aggregate-sha256
-    sha256-requires
+    slice-aggregate-label
+    label-requires
     key-requires
     slice-aggregate-above
     above-requires

@@ -68,7 +68,7 @@ returns-2 c =
     let r = rw (c .before .before .before .before .before .before .before .before .before .before .a2 .given .1) at (c .before .before .before .before .before .before .before .before .before .before .before .before .before .read-list .ensures) in
     let n = c .before .before .before .before .before .before .before .before .before .before .a2 .given .0 .0 in
     let f = c .before .before .before .before .before .before .before .before .before .known-told2 .given in
-    let d = c .before .before .before .before .before .before .digest .last .1 .0 in
+    let d = c .before .before .before .before .before .before .digest .last .1 .1 .0 in
     let t = line-accepted (c .before .before .before .before .before .before .before .before .before .before .before .before .before .before .before .before .before .args .text .now) (replicate {A = ℕ} 60000 0) (length-replicate {A = ℕ} 60000 0) n _ (replicate {A = ℕ} 32 0) _ d r refl (c .before .before .before .before .before .before .digest .ensures) in
     (rw (← t) (c .before .before .put-accepted .ensures), omega (arith, c .before .before .put-accepted .ensures .ends, accepted-length n d (omega arith) (omega (arith, c .before .before .before .before .before .before .digest .kept))))
 

@@ -4,21 +4,21 @@ use native.Mathlib.Omega.{arith}
 use lib.ListN.{length, length-take, length-drop}
 use borrow.Author.Needs.{needs}
 use Rattle.tree.proofs.LabelLaws.{label-of-none, label-of-node}
-use Rattle.tree.specs.Edition.{hash}
+use Rattle.profile.specs.Profile as specs
 use Prim.Native.Nat.{ℕ, _<_}
 use borrow.Fn.Kinds.{In}
 use borrow.Fn.PlainCycle.{Measures, is, falls, and}
 use Rattle.tree.proofs.labels.label.Reads as label
 use Rattle.tree.proofs.labels.label.Kinds as label-kinds
 use Rattle.tree.proofs.labels.+label.Lts-label as label-lts
-use Rattle.sha256.proofs.sha256.Reads as sha256-reads
+use Rattle.profile.proofs.label.Reads as label-reads
 use Rattle.tree.proofs.labels.flag.Reads as flag-reads
 use Rattle.tree.proofs.labels.node_record.Reads as node-record-reads
 use Rattle.tree.proofs.labels.+label.{statement}
 use Rattle.tree.proofs.labels.+label.Tie.{close}
 
 abbrev μ-label : Measures 1 label-kinds.ps ℕ
-μ-label κs a = length (a .0 .now)
+μ-label κs a = length (a .1 .0 .now)
 
 abbrev label-at : ℕ → In 1 label-kinds.ps
 label-at t = and 1 label-kinds.ps (is 1 label-kinds.ps μ-label t) label.Pre
@@ -28,10 +28,10 @@ label-below t = and 1 label-kinds.ps (falls 1 label-kinds.ps _<_ μ-label t) lab
 
 -- the readings that each need takes
 abbrev rs : ℕ → label-lts.Claims
-rs t = (label-below t, label.Post, flag-reads.Asked, flag-reads.Learnt, node-record-reads.Asked, node-record-reads.Learnt, sha256-reads.Asked, sha256-reads.Learnt)
+rs t = (label-below t, label.Post, flag-reads.Asked, flag-reads.Learnt, node-record-reads.Asked, node-record-reads.Learnt, label-reads.Asked, label-reads.Learnt)
 
 label-returns : (t : ℕ) → label-lts.Need-returns (rs t) (label-at t) label.Post
-label-returns t c = label-of-none hash (c .before .before .args .keys .now) (omega arith)
+label-returns t c = let a = c .before .before .args in label-of-none (specs.label (a .profile)) (a .keys .now) (omega arith)
 
 label-sub-after : (t : ℕ) → label-lts.Need-sub-after (rs t) (label-at t) label.Post
 label-sub-after t c = omega arith
@@ -87,11 +87,11 @@ label-slice-aggregate-node-record-2 t c = search needs
 label-node-record-requires : (t : ℕ) → label-lts.Need-node-record-requires (rs t) (label-at t) label.Post
 label-node-record-requires t c κs = (search needs, simp (length-take, length-drop) (omega arith), search needs)
 
-label-slice-aggregate-sha256 : (t : ℕ) → label-lts.Need-slice-aggregate-sha256 (rs t) (label-at t) label.Post
-label-slice-aggregate-sha256 t c = search needs
+label-slice-aggregate-label-2 : (t : ℕ) → label-lts.Need-slice-aggregate-label-2 (rs t) (label-at t) label.Post
+label-slice-aggregate-label-2 t c = search needs
 
-label-sha256-requires : (t : ℕ) → label-lts.Need-sha256-requires (rs t) (label-at t) label.Post
-label-sha256-requires t c κs = search needs
+label-label-requires-3 : (t : ℕ) → label-lts.Need-label-requires-3 (rs t) (label-at t) label.Post
+label-label-requires-3 t c κs = search needs
 
 label-returns-2 : (t : ℕ) → label-lts.Need-returns-2 (rs t) (label-at t) label.Post
 label-returns-2 t c =
@@ -99,8 +99,9 @@ label-returns-2 t c =
     let flagged = recorded .before .before .before .before in
     let right = flagged .before in
     let left = right .before .before in
-    label-of-node hash (left .before .before .before .before .args .keys .now) (omega arith)
-    (left .label .ensures) (right .label2 .ensures) (flagged .flag .ensures) (recorded .node-record .ensures) (c .sha256 .ensures)
+    let a = left .before .before .before .before .args in
+    label-of-node (specs.label (a .profile)) (a .keys .now) (omega arith)
+    (left .label .ensures) (right .label2 .ensures) (flagged .flag .ensures) (recorded .node-record .ensures) (c .label3 .ensures)
 
 pub +label-spec : {M : Type 1} → statement M
 +label-spec = close μ-label λ t. label-lts.spec (rs t)
@@ -125,6 +126,6 @@ pub +label-spec : {M : Type 1} → statement M
     (label-part-node-record-end t)
     (label-slice-aggregate-node-record-2 t)
     (label-node-record-requires t)
-    (label-slice-aggregate-sha256 t)
-    (label-sha256-requires t)
+    (label-slice-aggregate-label-2 t)
+    (label-label-requires-3 t)
     (label-returns-2 t)

@@ -1,9 +1,9 @@
 -- What reading standard input answers. What it reads, no contract can say.
 use Prim.Native.Nat.{ℕ, _+_, _≤_}
-use Rattle.digest.specs.declared.input.Step.{Step}
-use Rattle.digest.specs.declared.input.Step.the-variants.{Octets, End, Failed}
-use Rattle.digest.specs.declared.input.Input.{Input}
-use Rattle.digest.specs.declared.input.Input.the-variants.{Whole, Broken}
+use Rattle.input.specs.declared.Step.{Step}
+use Rattle.input.specs.declared.Step.the-variants.{Octets, End, Failed}
+use Rattle.input.specs.declared.Input.{Input}
+use Rattle.input.specs.declared.Input.the-variants.{Whole, Broken}
 
 -- one read at `at` gave at least one octet and no more than there was room for
 abbrev pub More : ℕ → ℕ → Step → Type 0

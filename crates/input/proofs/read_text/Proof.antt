@@ -4,8 +4,8 @@ use Prim.Native.Nat.{_≤_, _-_}
 use native.Mathlib.Omega.{arith}
 use lib.ListN.{length}
 use borrow.Author.Needs.{needs}
-use Rattle.digest.proofs.input.read_text.Statement.{statement}
-use Rattle.digest.proofs.input.read_text.Tie as tie
+use Rattle.input.proofs.read_text.Statement.{statement}
+use Rattle.input.proofs.read_text.Tie as tie
 
 abbrev Inv-loop : tie.InvT-loop
 Inv-loop text₀ n₀ text n = (n ≤ length text) × (length text ≡ length text₀)

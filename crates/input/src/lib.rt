@@ -1,7 +1,7 @@
 // Standard input, read to its end.
 ghost use Prim.Native.Nat.{_≤_};
 ghost use lib.ListN.{length};
-ghost use Rattle.digest.specs.Input.{More, Within};
+ghost use Rattle.input.specs.Input.{More, Within};
 use libc::STDIN_FILENO;
 
 // What one read gave: so many octets, at least one; the input's end; or that it failed.

@@ -1,0 +1,3 @@
+pub mod Trial
+pub mod Drill
+pub mod Shows
