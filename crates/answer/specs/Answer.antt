@@ -32,10 +32,17 @@ verdict-number verdict.Present = 0
 verdict-number verdict.Absent = 0
 verdict-number (verdict.Refused m p) = m
 
--- 01, "Verdict", step 6: 1 for Present, 0 for Absent; or the refusal's place
+-- the numbers of the two verdicts: above every place that a refusal can have
+abbrev pub present-number : ℕ
+present-number = 65537
+
+abbrev pub absent-number : ℕ
+absent-number = 65536
+
+-- 01, "Verdict", step 6: Present or Absent, by its number; or the refusal's place
 abbrev pub verdict-value : Verdict → ℕ
-verdict-value verdict.Present = 1
-verdict-value verdict.Absent = 0
+verdict-value verdict.Present = present-number
+verdict-value verdict.Absent = absent-number
 verdict-value (verdict.Refused m p) = p
 
 -- the C face's one number, as for an answer

@@ -35,6 +35,12 @@ pub const MORE_CODES: u16 = 16;
 
 pub const UNKNOWN_PROFILE: u16 = 17;
 
+// What an accepted verdict has in bits 0 to 31 of its number. No refusal has such a place, so that a number which a caller cut to 32
+// bits never turns a refusal into a verdict.
+pub const PRESENT: u64 = 65537;
+
+pub const ABSENT: u64 = 65536;
+
 // Done with what the function counts, or refused with the number and the place of document 01.
 pub enum Answer {
     Done(u32),
@@ -59,13 +65,13 @@ pub fn pack(a: Answer) -> u64
     }
 }
 
-// The verdict as one number, for callers in other languages: Present is 1, Absent 0.
+// The verdict as one number, for callers in other languages.
 pub fn pack_verdict(v: Verdict) -> u64
     ensures { λ r. ⌜ r ≡ verdict-packed v ⌝ }
 {
     match v {
-        Verdict::Present => 1,
-        Verdict::Absent => 0,
+        Verdict::Present => PRESENT,
+        Verdict::Absent => ABSENT,
         Verdict::Refused { number, place } => number as u64 * 281474976710656 + (place as u64),
     }
 }

@@ -24,7 +24,7 @@ pub record Bits (r refusal none value-or-place : ℕ) : Type 0 where
 abbrev pub Packing : Type 0
 Packing = (a : Answer) → value a < 2 ^ 32 → Bits (packed a) (number a) 0 (value a)
 
--- and so have its verdicts: 1 for Present, 0 for Absent
+-- and so have its verdicts
 abbrev pub Verdict-packing : Type 0
 Verdict-packing = (v : Verdict) → verdict-value v < 2 ^ 32 → Bits (verdict-packed v) (verdict-number v) 0 (verdict-value v)
 
