@@ -3,6 +3,5 @@ pub mod Profiles
 pub mod Demand1
 pub mod Demand2
 pub mod Demand3
-pub mod Examples
 pub mod WrongExtractors
 pub mod WrongPrograms

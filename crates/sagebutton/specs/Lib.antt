@@ -4,5 +4,4 @@ pub mod Profiles
 pub mod Demand1
 pub mod Demand2
 pub mod Demand3
-pub mod Examples
 pub mod WrongPrograms

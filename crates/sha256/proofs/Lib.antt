@@ -1,5 +1,6 @@
 pub mod Fips180Laws
 mod HashLaws
+pub mod Examples
 pub mod Bits
 mod WordLaws
 mod DigestLaws

@@ -1,8 +1,8 @@
 -- 01, "Box of examples": "Those marked P are proved, together, as one statement over one list of examples". Proved in
--- `proofs/Examples.antt`.
+-- `proofs/Box.antt`.
 use mathlib.Core.Path.{_≡_}
 use mathlib.Core.Bool.{false}
-use mathlib.Core.List.{List, [], _∷_, _++_, map}
+use mathlib.Core.List.{List, [], _∷_, _++_}
 use Prim.Native.Nat.{ℕ}
 use lib.ListN.{length}
 use Rattle.octets.specs.Order.{Octets}
@@ -17,38 +17,7 @@ use Rattle.attester.specs.Attestation.{attestation}
 use Rattle.codes.specs.Code.{key-of}
 use Rattle.codes.specs.Text as text
 use Rattle.tree.specs.Edition.{width}
-
--- 1-1
-abbrev pub code-1-1 : Octets
-code-1-1 = 0x31 ∷ 0x2D ∷ 0x31 ∷ []
-
--- 2-7
-abbrev pub code-2-7 : Octets
-code-2-7 = 0x32 ∷ 0x2D ∷ 0x37 ∷ []
-
--- 3-4
-abbrev pub code-3-4 : Octets
-code-3-4 = 0x33 ∷ 0x2D ∷ 0x34 ∷ []
-
--- 3-40
-abbrev pub code-3-40 : Octets
-code-3-40 = 0x33 ∷ 0x2D ∷ 0x34 ∷ 0x30 ∷ []
-
--- A-2
-abbrev pub code-A-2 : Octets
-code-A-2 = 0x41 ∷ 0x2D ∷ 0x32 ∷ []
-
--- 3-39
-abbrev pub code-3-39 : Octets
-code-3-39 = 0x33 ∷ 0x2D ∷ 0x33 ∷ 0x39 ∷ []
-
--- 1
-abbrev pub code-1 : Octets
-code-1 = 0x31 ∷ []
-
--- "List F is 1-1, 2-7, 3-4, 3-40, A-2": its keys
-abbrev pub F : List Octets
-F = map key-of (code-1-1 ∷ code-2-7 ∷ code-3-4 ∷ code-3-40 ∷ code-A-2 ∷ [])
+use Rattle.examples.specs.F.{code-1-1, code-2-7, code-3-4, code-3-40, code-A-2, code-3-39, code-1, F}
 
 -- a node with two subtrees, by its code; and one with none
 abbrev pub over : Octets → Tree → Tree → Tree

@@ -28,7 +28,8 @@ use Rattle.codes.specs.Code.{within, all, digit, key-of}
 use Rattle.codes.specs.Count as count
 use Rattle.codes.specs.Text as text
 use Rattle.tree.specs.Edition.{width, most}
-use Rattle.sagebutton.specs.Examples.{code-1-1, code-2-7, code-3-4, code-3-40, code-A-2, code-3-39, code-1, F, over, lone, text-0, text-00, Examples-hold}
+use Rattle.examples.specs.F.{code-1-1, code-2-7, code-3-4, code-3-40, code-A-2, code-3-39, code-1, F}
+use Rattle.examples.specs.Box.{over, lone, text-0, text-00, Examples-hold}
 
 -- one proof after another
 infixr 10 _also_
@@ -41,7 +42,7 @@ F-is : tree F ≡ over code-3-4 (over code-2-7 (lone code-1-1) leaf) (over code-
 unfolding tree tree-within
 F-is = refl
 
-F-listing : Listing width most F
+pub F-listing : Listing width most F
 unfolding key-of key order
 F-listing = record {
   some-entry = omega arith;

@@ -1,0 +1,3 @@
+pub mod F
+pub mod Box
+pub mod Values
