@@ -10,7 +10,7 @@ use Rattle.answer.specs.declared.Answer.{Answer}
 use Rattle.answer.specs.declared.Answer.the-variants.{Done, Refused}
 use Rattle.answer.specs.declared.Verdict.{Verdict}
 use Rattle.answer.specs.declared.Verdict.the-variants as verdicts
-use Rattle.answer.specs.Answer.{written}
+use Rattle.answer.specs.Answer.{value, present-number, absent-number, written}
 use Rattle.answer.specs.Refusals.{size, no-contradiction, unknown-profile}
 use Rattle.octets.specs.Order.{Octets}
 use Rattle.octets.specs.Put.{Wrote}
@@ -54,8 +54,8 @@ told-same : (w y : ℕ) (j k : Judgement) {p q : ℕ} → told w (verdict-of j) 
 unfolding told verdict-of
 told-same w y present present e f g = refl
 told-same w y absent absent e f g = refl
-told-same w y present absent {p} {q} e f g = let a : 1 ≡ p = cc in let b : 0 ≡ q = cc in absurd (omega arith)
-told-same w y absent present {p} {q} e f g = let a : 0 ≡ p = cc in let b : 1 ≡ q = cc in absurd (omega arith)
+told-same w y present absent {p} {q} e f g = let a : present-number ≡ p = ap value e in let b : absent-number ≡ q = ap value f in absurd (omega arith)
+told-same w y absent present {p} {q} e f g = let a : absent-number ≡ p = ap value e in let b : present-number ≡ q = ap value f in absurd (omega arith)
 told-same w y (verdict.refused m i) k e f g = absurd (told-done w (verdict.refused m i) e)
 told-same w y present (verdict.refused m i) e f g = absurd (told-done y (verdict.refused m i) f)
 told-same w y absent (verdict.refused m i) e f g = absurd (told-done y (verdict.refused m i) f)

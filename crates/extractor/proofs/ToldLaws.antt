@@ -9,7 +9,7 @@ use Rattle.answer.specs.declared.Answer.the-variants.{Done}
 use Rattle.answer.specs.declared.Answer.the-variants as answer
 use Rattle.answer.specs.declared.Verdict.{Verdict}
 use Rattle.answer.specs.declared.Verdict.the-variants.{Present, Absent, Refused}
-use Rattle.answer.specs.Answer.{verdict-packed}
+use Rattle.answer.specs.Answer.{present-number, verdict-packed}
 use Rattle.answer.proofs.Verdict.{the-type}
 use Rattle.extractor.specs.Told.{told}
 
@@ -20,7 +20,7 @@ told-accepted which Absent n k e = rw e
 told-accepted which (Refused m p) n k e = absurd (miss (0 ∷ 1 ∷ []) 2 tt k)
 
 -- it fits 32 bits
-pub told-small : (v : Verdict) (n : ℕ) → OneOf (0 ∷ 1 ∷ []) (tagOf the-type v) → n ≡ verdict-packed v → n ≤ 1
+pub told-small : (v : Verdict) (n : ℕ) → OneOf (0 ∷ 1 ∷ []) (tagOf the-type v) → n ≡ verdict-packed v → n ≤ present-number
 told-small Present n k e = rw e (omega arith)
 told-small Absent n k e = rw e (omega arith)
 told-small (Refused m p) n k e = absurd (miss (0 ∷ 1 ∷ []) 2 tt k)

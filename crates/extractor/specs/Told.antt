@@ -4,9 +4,10 @@ use Rattle.answer.specs.declared.Answer.{Answer}
 use Rattle.answer.specs.declared.Answer.the-variants.{Done, Refused}
 use Rattle.answer.specs.declared.Verdict.{Verdict}
 use Rattle.answer.specs.declared.Verdict.the-variants as verdict
+use Rattle.answer.specs.Answer.{present-number, absent-number}
 
--- 1 for Present, 0 for Absent; or "that refusal's number, with place 1 or 2 for which attestation"
+-- Present or Absent, by its number; or "that refusal's number, with place 1 or 2 for which attestation"
 unfoldable pub told : ℕ → Verdict → Answer
-told which verdict.Present = Done 1
-told which verdict.Absent = Done 0
+told which verdict.Present = Done present-number
+told which verdict.Absent = Done absent-number
 told which (verdict.Refused m p) = Refused m which

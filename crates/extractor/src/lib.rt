@@ -10,12 +10,12 @@ ghost use Rattle.extractor.specs.Extract.{Extracted};
 use answer::Answer;
 use answer::Verdict;
 
-// 1 for Present, 0 for Absent; or the refusal's number, with which attestation it was as its place.
+// The verdict's own number for Present and Absent; or the refusal's number, with which attestation it was as its place.
 fn told(which: u32, v: Verdict) -> Answer
     ensures { λ r. ⌜ r ≡ specs.told which v ⌝ }
 {
     let Verdict::Refused { number, place: _ } = v else {
-        // the number of an accepting verdict is 1 or 0
+        // a verdict that accepts is packed without a refusal, in 32 bits
         return Answer::Done(answer::pack_verdict(v) as u32);
     };
     Answer::Refused {
