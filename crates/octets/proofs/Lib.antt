@@ -1,3 +1,4 @@
+pub mod OctetLaws
 pub mod OrderLaws
 pub mod PutLaws
 mod CompareLaws

@@ -1,12 +1,17 @@
 -- Octet strings and their order (01, "Keys and codes": "octet by octet from the first, as unsigned numbers").
 use mathlib.Core.Bool.{Bool, true, false}
 use mathlib.Core.List.{List, [], _∷_}
-use Prim.Native.Nat.{ℕ, compare, Ordering, Ordering·lt, Ordering·eq, Ordering·gt}
+use Prim.Native.Nat.{ℕ, _<_, compare, Ordering, Ordering·lt, Ordering·eq, Ordering·gt}
 use lib.Dec.{isEq}
 
 -- an octet is a number; an octet string is a list of them
 abbrev pub Octets : Type 0
 Octets = List ℕ
+
+-- an octet is 8 bits: each of these numbers is below 256
+abbrev pub Are-octets : Octets → Type 0
+Are-octets [] = Unit {0}
+Are-octets (a ∷ s) = (a < 256) × Are-octets s
 
 -- the first difference decides
 abbrev pub orElse : Ordering → Ordering → Ordering

@@ -1,5 +1,5 @@
 -- The bits of octet strings: an octet of a number is eight of its bits, so the padding's octets are the standard's bits.
-use mathlib.Core.List.{List, [], _∷_, _++_, append-assoc}
+use mathlib.Core.List.{[], _∷_, _++_, append-assoc}
 use mathlib.Core.Path.{_≡_, refl, sym, ap, ap₂, _∙_}
 use Prim.Native.Nat.{ℕ, zero, suc, _+_, _*_, _/_, _%_, _^_}
 use native.Mathlib.Nat.{mul-assoc, pow-suc, div-div-eq-div-mul}
@@ -7,16 +7,7 @@ use native.Mathlib.Omega.{arith}
 use lib.ListN.{replicate, replicate-append-replicate}
 use Rattle.octets.specs.Order.{Octets}
 use Rattle.sha256.specs.Fips180.{octets, zeros}
-
--- x as n bits, the most significant first
-unfoldable pub binary : ℕ → ℕ → List ℕ
-binary zero x = []
-binary (suc n) x = x / 2 ^ n % 2 ∷ binary n x
-
--- the bits of an octet string, octet by octet
-unfoldable pub bits : Octets → List ℕ
-bits [] = []
-bits (a ∷ s) = binary 8 a ++ bits s
+use Rattle.sha256.specs.Standard.{binary, bits}
 
 bits-append : (s t : Octets) → bits (s ++ t) ≡ bits s ++ bits t
 unfolding bits

@@ -1,13 +1,15 @@
--- What FIPS 180-4 says of its own definitions, as theorems: a check of specs/Fips180.antt, and facts for callers. The
--- statements come first, with the standard's sections; `Bits` and `ScheduleLaws` have what they rest on.
+-- What FIPS 180-4 says of its own definitions, as theorems, and facts for callers; `specs/Standard.antt` collects the statements.
+-- `Bits` and `ScheduleLaws` have what they rest on.
 use mathlib.Core.List.{_∷_, _++_}
 use mathlib.Core.Path.{_≡_, refl}
-use Prim.Native.Nat.{ℕ, _+_, _-_, _*_, _%_, _<_, _≤_}
+use Prim.Native.Nat.{ℕ, _+_, _-_, _*_, _/_, _%_, _<_, _≤_}
 use native.Mathlib.Omega.{arith}
-use lib.ListN.{length, getD, replicate, length-append, length-replicate}
-use Rattle.octets.specs.Order.{Octets}
-use Rattle.sha256.specs.Fips180.{_⊞_, σ0, σ1, K, zeros, octets, padding, padded, M, next, schedule, digest, sha256}
-use Rattle.sha256.proofs.Bits.{binary, bits, padding-digits}
+use lib.ListN.{length, replicate, length-append, length-replicate}
+use Rattle.octets.specs.Order.{Octets, Are-octets}
+use Rattle.sha256.specs.declared.compress.State.{State}
+use Rattle.sha256.specs.Fips180.{_⊞_, σ0, σ1, K, zeros, octets, padding, padded, M, next, schedule, H0, blocks, digest, sha256}
+use Rattle.sha256.specs.Standard.{binary, bits, Wₜ}
+use Rattle.sha256.proofs.Bits.{padding-digits}
 use Rattle.sha256.proofs.ScheduleLaws.{schedule-size, schedule-block, schedule-next}
 
 -- §4.2.2: 64 constants
@@ -40,9 +42,6 @@ pub schedule-length : (b : Octets) → length (schedule b 64) ≡ 64
 schedule-length b = schedule-size b 64
 
 -- §6.2.2, 1: W_t of the block b
-abbrev pub Wₜ : Octets → ℕ → ℕ
-Wₜ b t = getD (schedule b 64) t 0
-
 pub W-first : (b : Octets) (t : ℕ) → t < 16 → Wₜ b t ≡ M b t
 W-first b t h = schedule-block b 64 t (omega arith) h
 
@@ -54,3 +53,12 @@ W-later b t l h = schedule-next b 64 t l h
 pub sha256-length : (m : Octets) → length (sha256 m) ≡ 32
 unfolding sha256 digest octets
 sha256-length m = refl
+
+-- §3.1: a digest's octets are octets, each below 256
+digest-octets : (s : State) → Are-octets (digest s)
+unfolding digest octets
+digest-octets s = omega arith
+
+pub sha256-octets : (m : Octets) → Are-octets (sha256 m)
+unfolding sha256
+sha256-octets m = digest-octets (blocks H0 (padded m) (length (padded m) / 64))

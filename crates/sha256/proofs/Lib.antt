@@ -1,7 +1,8 @@
 pub mod Fips180Laws
+pub mod Standard
 mod HashLaws
 pub mod Examples
-pub mod Bits
+mod Bits
 mod WordLaws
 mod DigestLaws
 mod TurnLaws
