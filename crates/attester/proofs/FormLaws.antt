@@ -16,7 +16,7 @@ use Rattle.attester.specs.Reader.{short, wrong, Read, got, stopped, give
 use Rattle.attester.specs.Form.{announced, optional, climb, path-of, is-count, sections, formed, placed, form}
 use Rattle.attester.specs.Attestation.{optional-octets, render}
 use Rattle.attester.proofs.ReaderLaws.{All, went, octet-back, octet-only, close-only, Inverse, block-inverse, many-back, many-only}
-use Rattle.attester.proofs.PathLaws.{keys-length, siblings-length, sized-keys, sized-siblings, sized-left, sized-right, path-of-sections, keys-climb, siblings-climb, foot-left-climb, foot-right-climb, sized-climb}
+use Rattle.attester.proofs.PathLaws.{keys-length, siblings-length, throughout-keys, throughout-siblings, sized-left, sized-right, path-of-sections, keys-climb, siblings-climb, foot-left-climb, foot-right-climb, sized-climb}
 
 -- Optional labels
 
@@ -71,9 +71,9 @@ module _ (w : ℕ) (p : Path) (z : Sized w p) (h : height p < 32) where
       let s₂ = optional-octets (foot-left p) ++ s₃ in
       let s₁ = flatten (keys p) ++ s₂ in
       let entries : many (block w) (suc n) s₁ ≡ got (keys p) s₂ =
-      rw map-id at (many-back (block w) (λ e. e) (λ e. length e ≡ w) (block-inverse w) (suc n) (keys p) s₂ (keys-length p) (sized-keys w p z)) in
+      rw map-id at (many-back (block w) (λ e. e) (λ e. length e ≡ w) (block-inverse w) (suc n) (keys p) s₂ (keys-length p) (throughout-keys (λ e. length e ≡ w) Labelled p z)) in
       let labels : many optional n s₅ ≡ got (siblings p) [] =
-      rw append-nil at (many-back optional optional-octets Labelled optional-inverse n (siblings p) [] (siblings-length p) (sized-siblings w p z)) in
+      rw append-nil at (many-back optional optional-octets Labelled optional-inverse n (siblings p) [] (siblings-length p) (throughout-siblings (λ e. length e ≡ w) Labelled p z)) in
       let one-less : suc n - 1 ≡ n = omega arith in
       rw (
         octet-back is-count (suc n) s₁ (true-is-count (suc n) (omega arith) h),

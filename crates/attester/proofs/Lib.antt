@@ -18,6 +18,7 @@ pub mod SearchStepLaws
 pub mod SearchLaws
 pub mod AttestationLaws
 pub mod Demand2
+mod OctetLaws
 pub mod LengthLaws
 pub mod LongestLaws
 pub mod NumberedLaws

@@ -1,13 +1,14 @@
 -- Lists as long as one likes, to show that a bound is reached: the entries of the numbers from i on, two octets for the number
--- and then zeros.
+-- and then zeros; octets they are where the numbers are below 65,536.
 use mathlib.Core.Path.{_≡_, refl, ap}
 use mathlib.Core.Bool.{false}
 use mathlib.Core.List.{List, [], _∷_}
-use Prim.Native.Nat.{ℕ, zero, suc, _-_, _/_, _%_, _≤_, _<_}
+use Prim.Native.Nat.{ℕ, zero, suc, _+_, _-_, _/_, _%_, _≤_, _<_}
 use native.Mathlib.Decide.{decLt}
 use native.Mathlib.Omega.{arith}
 use lib.ListN.{length, replicate, length-replicate}
-use Rattle.octets.specs.Order.{Octets, order, same}
+use Rattle.octets.specs.Order.{Octets, Are-octets, order, same}
+use Rattle.octets.proofs.OctetLaws.{octets-zeros}
 use Rattle.octets.proofs.OrderLaws.{lt-compare, compare-refl}
 use Rattle.attester.specs.Entry.{key}
 use Rattle.attester.specs.Listing.{Below, Each, Ascending, Listing}
@@ -18,6 +19,10 @@ numbered w i = i / 256 ∷ i % 256 ∷ replicate (w - 2) 0
 pub numbered-length : (w i : ℕ) → 2 ≤ w → length (numbered w i) ≡ w
 unfolding numbered
 numbered-length w i h = omega (arith, length-replicate {A = ℕ} (w - 2) 0)
+
+pub numbered-octets : (w i : ℕ) → i < 65536 → Are-octets (numbered w i)
+unfolding numbered
+numbered-octets w i h = (omega arith, (omega arith, octets-zeros (w - 2)))
 
 pub numbered-below : (w i j : ℕ) → i < j → Below (numbered w i) (numbered w j)
 unfolding numbered key order
@@ -46,6 +51,11 @@ rising-sized : (w i n : ℕ) → 2 ≤ w → Each (λ e. length e ≡ w) (rising
 unfolding rising
 rising-sized w i zero h = tt
 rising-sized w i (suc n) h = (numbered-length w i h, rising-sized w (suc i) n h)
+
+pub rising-octets : (w i n : ℕ) → i + n ≤ 65536 → Each Are-octets (rising w i n)
+unfolding rising
+rising-octets w i zero h = tt
+rising-octets w i (suc n) h = (numbered-octets w i (omega arith), rising-octets w (suc i) n (omega arith))
 
 rising-above : (w i j n : ℕ) → i < j → Each (Below (numbered w i)) (rising w j n)
 unfolding rising

@@ -6,7 +6,7 @@ use native.Mathlib.Omega.{arith}
 use lib.ListN.{length, length-append}
 use Rattle.octets.specs.Order.{Octets}
 use Rattle.attester.specs.Record.{Child, Labelled}
-use Rattle.attester.specs.Path.{Path, foot, step, foot-entry, foot-left, foot-right, height, keys, siblings, Sized}
+use Rattle.attester.specs.Path.{Path, foot, step, foot-entry, foot-left, foot-right, height, keys, siblings, Throughout, Sized}
 use Rattle.attester.specs.Form.{climb, path-of}
 use Rattle.attester.proofs.ReaderLaws.{All, all-append}
 
@@ -20,26 +20,35 @@ unfolding siblings height
 siblings-length (foot e l r) = refl
 siblings-length (step e s p) = simp length-append (omega (arith, siblings-length p))
 
-module _ (w : ℕ) where
-  pub sized-keys : (p : Path) → Sized w p → All (λ e. length e ≡ w) (keys p)
+-- What holds throughout a path holds in each section
+
+module _ (P : Octets → Type 0) (Q : Child → Type 0) where
+  pub throughout-keys : (p : Path) → Throughout P Q p → All P (keys p)
   unfolding keys
-  sized-keys (foot e l r) h = (h .0, tt)
-  sized-keys (step e s p) h = all-append (λ e. length e ≡ w) (keys p) (e ∷ []) (sized-keys p (h .2)) (h .0, tt)
+  throughout-keys (foot e l r) h = (h .0, tt)
+  throughout-keys (step e s p) h = all-append P (keys p) (e ∷ []) (throughout-keys p (h .2)) (h .0, tt)
 
-  pub sized-siblings : (p : Path) → Sized w p → All Labelled (siblings p)
+  pub throughout-siblings : (p : Path) → Throughout P Q p → All Q (siblings p)
   unfolding siblings
-  sized-siblings (foot e l r) h = tt
-  sized-siblings (step e s p) h = all-append Labelled (siblings p) (s ∷ []) (sized-siblings p (h .2)) (h .1, tt)
+  throughout-siblings (foot e l r) h = tt
+  throughout-siblings (step e s p) h = all-append Q (siblings p) (s ∷ []) (throughout-siblings p (h .2)) (h .1, tt)
 
-  pub sized-left : (p : Path) → Sized w p → Labelled (foot-left p)
+  pub throughout-left : (p : Path) → Throughout P Q p → Q (foot-left p)
   unfolding foot-left
-  sized-left (foot e l r) h = h .1
-  sized-left (step e s p) h = sized-left p (h .2)
+  throughout-left (foot e l r) h = h .1
+  throughout-left (step e s p) h = throughout-left p (h .2)
+
+  pub throughout-right : (p : Path) → Throughout P Q p → Q (foot-right p)
+  unfolding foot-right
+  throughout-right (foot e l r) h = h .2
+  throughout-right (step e s p) h = throughout-right p (h .2)
+
+module _ (w : ℕ) where
+  pub sized-left : (p : Path) → Sized w p → Labelled (foot-left p)
+  sized-left = throughout-left (λ e. length e ≡ w) Labelled
 
   pub sized-right : (p : Path) → Sized w p → Labelled (foot-right p)
-  unfolding foot-right
-  sized-right (foot e l r) h = h .2
-  sized-right (step e s p) h = sized-right p (h .2)
+  sized-right = throughout-right (λ e. length e ≡ w) Labelled
 
 -- Climbing
 

@@ -11,6 +11,7 @@ use lib.ListN.{length, take, drop, getD, replicate, length-take, length-drop, le
 use lib.Pow.{pow-pos}
 use lib.Seq.{getD-take}
 use Rattle.octets.specs.Order.{Octets}
+use Rattle.octets.proofs.OctetLaws.{octets-zeros}
 use Rattle.octets.proofs.OrderLaws.{order-refl}
 use Rattle.attester.specs.Entry.{key}
 use Rattle.attester.specs.Record.{Child, bit}
@@ -20,13 +21,15 @@ use Rattle.attester.specs.Listing.{Ascending}
 use Rattle.attester.specs.Path.{Path, foot, step, top, foot-entry, height, Sized}
 use Rattle.attester.specs.Verdict.{side, child-there, hidden, fault}
 use Rattle.attester.specs.Search.{search}
+use Rattle.attester.specs.Attestation.{optional-octets}
 use Rattle.attester.proofs.TreeLaws.{tree-node}
 use Rattle.attester.proofs.LabelLaws.{label-none, label-bit}
 use Rattle.attester.proofs.ListingLaws.{ascending-at, ascending-take}
 use Rattle.attester.proofs.VerdictLaws.{fault-none}
 use Rattle.attester.proofs.SearchStepLaws.{tree-grown, search-hit, search-left}
+use Rattle.attester.proofs.OctetLaws.{Octet-path}
 use Rattle.attester.proofs.LengthLaws.{levels-length}
-use Rattle.attester.proofs.NumberedLaws.{numbered, numbered-length, numbered-other}
+use Rattle.attester.proofs.NumberedLaws.{numbered, numbered-length, numbered-octets, numbered-other}
 
 -- The paths of the first and of the second entry
 
@@ -130,6 +133,11 @@ pub tower-sized : (w n : ℕ) → 2 ≤ w → Sized w (tower w n)
 unfolding tower some-label
 tower-sized w zero h = (numbered-length w 0 h, length-replicate {A = ℕ} 32 0, length-replicate {A = ℕ} 32 0)
 tower-sized w (suc n) h = (numbered-length w (suc n) h, length-replicate {A = ℕ} 32 0, tower-sized w n h)
+
+pub tower-octets : (w n : ℕ) → n < 65536 → Octet-path (tower w n)
+unfolding tower some-label optional-octets
+tower-octets w zero h = (numbered-octets w 0 h, (omega arith, octets-zeros 32), (omega arith, octets-zeros 32))
+tower-octets w (suc n) h = (numbered-octets w (suc n) h, (omega arith, octets-zeros 32), tower-octets w n (omega arith))
 
 pub tower-levels : (w n : ℕ) → levels-length w (tower w n) ≡ (w + 33) * suc n + 32
 unfolding tower some-label levels-length

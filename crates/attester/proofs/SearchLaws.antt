@@ -10,11 +10,12 @@ use lib.ListN.{length}
 use Rattle.octets.specs.Order.{Octets, order, same}
 use Rattle.octets.proofs.OrderLaws.{order-flip, order-trans}
 use Rattle.attester.specs.Entry.{key}
+use Rattle.attester.specs.Record.{Child, Labelled}
 use Rattle.attester.specs.Tree.{Tree, leaf, node, inorder}
 use Rattle.attester.specs.Label.{label}
 use Rattle.attester.specs.Depth.{depth}
 use Rattle.attester.specs.Listing.{Below, Each, Ascending}
-use Rattle.attester.specs.Path.{Path, foot, step, top, foot-entry, foot-left, foot-right, height, Sized}
+use Rattle.attester.specs.Path.{Path, foot, step, top, foot-entry, foot-left, foot-right, height, Throughout, Sized}
 use Rattle.attester.specs.Verdict.{side, child-there, hidden, fault, join, root-record}
 use Rattle.attester.specs.Search.{turn, onward, search, listed}
 use Rattle.attester.proofs.LabelLaws.{label-labelled}
@@ -175,20 +176,21 @@ found-listed H x (go-right {l} {r} {e} {p} s f) h =
     rw (listed-append x (inorder l) (e ∷ inorder r), side-same-gt x e s, unlisted-below x e (inorder l) s (q .all-below))
     (found-listed H x f (q .right))
 
--- Sizes
+-- What holds of the tree's entries and of every label holds throughout the path
 
-module _ (H : Octets → Octets) (H-length : (m : Octets) → length (H m) ≡ 32) (x : Octets) (w : ℕ) where
-  pub found-sized : {t : Tree} {p : Path} → Found H x t p → Each (λ e. length e ≡ w) (inorder t) → Sized w p
-  unfolding inorder
-  found-sized (hit {l} {r} {e} s) h =
-      ((each-right (λ e. length e ≡ w) (inorder l) (e ∷ inorder r) h) .0, label-labelled H H-length l, label-labelled H H-length r)
-  found-sized (end-left {r} {e} s) h = (h .0, tt, label-labelled H H-length r)
-  found-sized (end-right {l} {e} s) h = ((each-right (λ e. length e ≡ w) (inorder l) (e ∷ []) h) .0, label-labelled H H-length l, tt)
-  found-sized (go-left {l} {r} {e} s f) h = (
-    (each-right (λ e. length e ≡ w) (inorder l) (e ∷ inorder r) h) .0,
-    label-labelled H H-length r,
-    found-sized f (each-left (λ e. length e ≡ w) (inorder l) (e ∷ inorder r) h),
-  )
-  found-sized (go-right {l} {r} {e} s f) h =
-      let q = each-right (λ e. length e ≡ w) (inorder l) (e ∷ inorder r) h in
-      (q .0, label-labelled H H-length l, found-sized f (q .1))
+module _ (H : Octets → Octets) (x : Octets) (P : Octets → Type 0) (Q : Child → Type 0) (labelled : (t : Tree) → Q (label H t)) where
+  pub found-throughout : {t : Tree} {p : Path} → Found H x t p → Each P (inorder t) → Throughout P Q p
+  unfolding inorder label
+  found-throughout (hit {l} {r} {e} s) h = ((each-right P (inorder l) (e ∷ inorder r) h) .0, labelled l, labelled r)
+  found-throughout (end-left {r} {e} s) h = (h .0, labelled leaf, labelled r)
+  found-throughout (end-right {l} {e} s) h = ((each-right P (inorder l) (e ∷ []) h) .0, labelled l, labelled leaf)
+  found-throughout (go-left {l} {r} {e} s f) h =
+      let q = each-right P (inorder l) (e ∷ inorder r) h in
+      (q .0, labelled r, found-throughout f (each-left P (inorder l) (e ∷ inorder r) h))
+  found-throughout (go-right {l} {r} {e} s f) h =
+      let q = each-right P (inorder l) (e ∷ inorder r) h in
+      (q .0, labelled l, found-throughout f (q .1))
+
+pub found-sized : (H : Octets → Octets) → ((m : Octets) → length (H m) ≡ 32) → (x : Octets) (w : ℕ) {t : Tree} {p : Path} → Found H x t p
+    → Each (λ e. length e ≡ w) (inorder t) → Sized w p
+found-sized H H-length x w = found-throughout H x (λ e. length e ≡ w) Labelled (label-labelled H H-length)

@@ -1,11 +1,11 @@
 -- The longest attestations (01, "The attestation": "The longest the verifier takes is 1,731 octets; the longest we issue is
 -- 586."), over any function H from records to labels.
 use mathlib.Core.Path.{_≡_}
-use mathlib.Core.List.{List}
+use mathlib.Core.List.{List, [], _∷_}
 use Prim.Native.Nat.{ℕ, _≤_}
 use lib.ListN.{length}
-use Rattle.octets.specs.Order.{Octets}
-use Rattle.attester.specs.Listing.{Listing}
+use Rattle.octets.specs.Order.{Octets, Are-octets}
+use Rattle.attester.specs.Listing.{Each, Listing}
 use Rattle.attester.specs.Verdict.{Accepted}
 use Rattle.attester.specs.Attestation.{attestation}
 use Rattle.attester.specs.Verify.{verify}
@@ -24,9 +24,18 @@ pub record Taken (H : Octets → Octets) (w : ℕ) (a : Octets) : Type 0 where
   pub digest : Octets
   pub accepted : Accepted (verify H w key digest a)
 
--- none has more than n octets, and one has n
-pub record Longest (Is : Octets → Type 0) (n : ℕ) : Type 0 where
+-- what they are issued, or taken, for
+abbrev pub issued-for : {H : Octets → Octets} {w most : ℕ} (a : Octets) → Issued H w most a → List Octets
+issued-for a i = i .key ∷ i .list
+
+abbrev pub taken-for : {H : Octets → Octets} {w : ℕ} (a : Octets) → Taken H w a → List Octets
+taken-for a t = t .key ∷ t .digest ∷ []
+
+-- none has more than n octets, and one has n; that one, and what it is for, are octets indeed, each below 256
+pub record Longest (Is : Octets → Type 0) (for : (a : Octets) → Is a → List Octets) (n : ℕ) : Type 0 where
   pub most : (a : Octets) → Is a → length a ≤ n
   pub longest : Octets
   pub is : Is longest
   pub reached : length longest ≡ n
+  pub octets : Are-octets longest
+  pub for-octets : Each Are-octets (for longest is)

@@ -46,10 +46,14 @@ unfoldable pub siblings : Path → List Child
 siblings (foot e l r) = []
 siblings (step e s p) = siblings p ++ (s ∷ [])
 
+-- P holds of each entry, and Q of each child
+abbrev pub Throughout : (Octets → Type 0) → (Child → Type 0) → Path → Type 0
+Throughout P Q (foot e l r) = P e × Q l × Q r
+Throughout P Q (step e s p) = P e × Q s × Throughout P Q p
+
 -- 01: each entry has w octets, and each label 32
 abbrev pub Sized : ℕ → Path → Type 0
-Sized w (foot e l r) = (length e ≡ w) × Labelled l × Labelled r
-Sized w (step e s p) = (length e ≡ w) × Labelled s × Sized w p
+Sized w = Throughout (λ e. length e ≡ w) Labelled
 
 -- 01, "Extractor", "from the root downward, level by level": the path that is left i levels below the root
 unfoldable pub down : ℕ → Path → Path

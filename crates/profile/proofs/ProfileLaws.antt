@@ -1,4 +1,4 @@
--- A label has 32 octets in each profile; and what is answered in a profile that is known, and in one that is not.
+-- A label has 32 octets in each profile, each below 256; and what is answered in a profile that is known, and in one that is not.
 use mathlib.Core.Path.{_≡_, refl, ap, _∙_}
 use mathlib.Core.Bool.{Bool, true, false, cond}
 use mathlib.Core.Logic.{_⊎_, inl, inr}
@@ -9,11 +9,12 @@ use lib.Dec.{eqb}
 use lib.ListN.{length, take, replicate, length-append}
 use lib.Seq.{length-take-le}
 use Rattle.answer.specs.Refusals.{unknown-profile}
-use Rattle.octets.specs.Order.{Octets}
+use Rattle.octets.specs.Order.{Octets, Are-octets}
 use Rattle.octets.specs.Put.{Wrote}
+use Rattle.octets.proofs.OctetLaws.{octets-append, octets-take, octets-zeros}
 use Rattle.octets.proofs.PutLaws.{put-front}
 use Rattle.sha256.specs.Fips180.{sha256}
-use Rattle.sha256.proofs.Fips180Laws.{sha256-length}
+use Rattle.sha256.proofs.Fips180Laws.{sha256-length, sha256-octets}
 use Rattle.profile.specs.Profile.{full, drill, known, short, kept, label, in-profile}
 
 front-length : (n : ℕ) (h : Octets) → n ≤ 32 → length h ≡ 32 → length (take n h) ≡ n
@@ -26,6 +27,14 @@ label-length profile r = go (eqb profile drill)
     go : (b : Bool) → length (cond b (short (sha256 r)) (sha256 r)) ≡ 32
     go true = rw (length-append (take 2 (sha256 r)) (replicate 30 0), front-length 2 (sha256 r) (omega arith) (sha256-length r)) refl
     go false = sha256-length r
+
+pub label-octets : (profile : ℕ) (r : Octets) → Are-octets (label profile r)
+unfolding label kept
+label-octets profile r = go (eqb profile drill)
+  where
+    go : (b : Bool) → Are-octets (cond b (short (sha256 r)) (sha256 r))
+    go true = octets-append (take 2 (sha256 r)) (replicate 30 0) (octets-take 2 (sha256 r) (sha256-octets r)) (octets-zeros 30)
+    go false = sha256-octets r
 
 -- What a label is in each profile
 

@@ -19,7 +19,7 @@ use Rattle.answer.proofs.WrittenLaws.{written-whole}
 use Rattle.answer.specs.Refusals.{size, too-short}
 use Rattle.octets.specs.Order.{Octets}
 use Rattle.profile.specs.Profile.{known, label}
-use Rattle.profile.proofs.ProfileLaws.{label-length, in-known, other-known}
+use Rattle.profile.proofs.ProfileLaws.{label-length, label-octets, in-known, other-known}
 use Rattle.attester.specs.Entry.{entries}
 use Rattle.attester.specs.Label.{digest}
 use Rattle.attester.specs.Listing.{Listing}
@@ -28,7 +28,7 @@ use Rattle.attester.specs.Verdict.{present, absent}
 use Rattle.attester.specs.Verify.{verify}
 use Rattle.attester.specs.Search.{listed}
 use Rattle.attester.specs.Attestation.{attestation}
-use Rattle.attester.specs.Longest.{Issued, Longest}
+use Rattle.attester.specs.Longest.{Issued, issued-for, Longest}
 use Rattle.attester.proofs.AdmissionLaws.{admit-admitted, listing-admitted}
 use Rattle.attester.proofs.EntryLaws.{entries-flatten}
 use Rattle.attester.proofs.LabelLaws.{digest-length}
@@ -68,8 +68,8 @@ read-are-listings text out n out′ r =
       whole = rw parts front;
     }
 
-longest-issued : (profile : ℕ) → Longest (Issued (label profile) width most) 586
-longest-issued profile = longest-issued-first (label profile) (label-length profile)
+longest-issued : (profile : ℕ) → Longest (Issued (label profile) width most) issued-for 586
+longest-issued profile = longest-issued-first (label profile) (label-length profile) (label-octets profile)
 
 module _ (profile : ℕ) (k : known profile ≡ true) where
   -- in a known profile what is answered is document 01's
@@ -203,7 +203,7 @@ demand-2 = record {
   accepted-are-listings = λ profile keys d n d′ g. accepted-are-listings profile (digest-known profile keys d n d′ g) keys d n d′ g;
   read-are-listings = read-are-listings;
   longest-issued = longest-issued;
-  longest-taken = λ profile. longest-taken-first (label profile) (label-length profile);
+  longest-taken = λ profile. longest-taken-first (label profile) (label-length profile) (label-octets profile);
 }
 
 -- The digest of what was read

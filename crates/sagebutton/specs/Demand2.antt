@@ -20,7 +20,7 @@ use Rattle.attester.specs.Label.{digest}
 use Rattle.attester.specs.Listing.{Listing}
 use Rattle.attester.specs.Search.{listed}
 use Rattle.attester.specs.Attestation.{attestation}
-use Rattle.attester.specs.Longest.{Issued, Taken, Longest}
+use Rattle.attester.specs.Longest.{Issued, Taken, issued-for, taken-for, Longest}
 use Rattle.codes.specs.Read.{Read}
 use Rattle.tree.specs.Digest.{Digested}
 use Rattle.tree.specs.Edition.{width, most}
@@ -76,5 +76,5 @@ pub record Demand-2 : Type 0 where
   pub accepted-are-listings : (profile : ℕ) → Accepted-are-listings profile
   pub read-are-listings : Read-are-listings
   -- 01, "The attestation": "The longest the verifier takes is 1,731 octets; the longest we issue is 586." Each is reached.
-  pub longest-issued : (profile : ℕ) → Longest (Issued (label profile) width most) 586
-  pub longest-taken : (profile : ℕ) → Longest (Taken (label profile) width) 1731
+  pub longest-issued : (profile : ℕ) → Longest (Issued (label profile) width most) issued-for 586
+  pub longest-taken : (profile : ℕ) → Longest (Taken (label profile) width) taken-for 1731
