@@ -2,14 +2,13 @@
 pub mod admission;
 pub mod labels;
 
-ghost use mathlib.Core.Path.{_≡_};
-ghost use Rattle.attester.specs.Depth.{bit-length};
+ghost use Rattle.tree.specs.Depth.{Depth-of};
 ghost use Rattle.tree.specs.Digest.{Digested};
 use answer::Answer;
 
 // How many levels the tree of n keys has: 12 for 3,000.
 pub fn depth(n: u32) -> u32
-    ensures { λ r. ⌜ r ≡ bit-length n ⌝ }
+    ensures { λ r. ⌜ Depth-of n r ⌝ }
 {
     32 - u32::leading_zeros(n)
 }
