@@ -1,11 +1,11 @@
-mod NumberLaws
-mod OneNodeLaws
+pub mod NumberLaws
+pub mod OneNodeLaws
 mod TrialLaws
 mod FirstLaws
 mod HandedLaws
 mod ReadLaws
 mod DrilledLaws
-mod ShownLaws
+pub mod ShownLaws
 mod ComesLaws
 pub mod SizedLaws
 pub mod Shows

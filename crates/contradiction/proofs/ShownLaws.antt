@@ -78,7 +78,7 @@ module _ (k : Octets) (sized-key : length k ≡ 20) (n : ℕ) where
   few : 3000 < 2 ^ 32
   few = omega arith
 
-  shows-foot : (j : Octets) → length j ≡ 20 → shown width (attestation (label drill) (j ∷ []) x) ≡ foot j none none
+  pub shows-foot : (j : Octets) → length j ≡ 20 → shown width (attestation (label drill) (j ∷ []) x) ≡ foot j none none
   unfolding shown
   shows-foot j h =
       rw (form-of-attestation (label drill) (label-length drill) width most (j ∷ []) x (one-listing j h) few) (one-search (label drill) j x)

@@ -35,7 +35,7 @@ pub record Skipped (k : Octets) (n : ℕ) : Type 0 where
   pub below : which < n
   pub is-listed : number-key which ≡ k
 
--- "at most 1,048,576 of them": the numbers below `bound`, and `bound` itself where one of those was skipped
+-- 02 (vi), "at most 1,048,576 of them": the numbers below `bound`, and `bound` itself where one of those was skipped
 abbrev pub Within : Octets → ℕ → ℕ → Type 0
 Within k bound n = (n < bound) ⊎ ((n ≡ bound) × Skipped k bound)
 
@@ -81,7 +81,7 @@ pub record Found-by (s : Octets) (bound n : ℕ) (out₁′ out₂′ : Octets) 
   pub within : n < bound
   pub shown : Shown listed n out₁′ out₂′
 
--- what the answer "none" tells of a text: it has one key, and the search finds nothing for it; both buffers stay
+-- what the answer `None` tells of a text: it has one key, and the search finds nothing for it; both buffers stay
 pub record Found-none (s : Octets) (bound : ℕ) (out₁ out₂ out₁′ out₂′ : Octets) : Type 0 where
   pub listed : Octets
   pub was-read : reading (most * width) s ≡ accepted (listed ∷ [])
@@ -91,11 +91,11 @@ pub record Found-none (s : Octets) (bound : ℕ) (out₁ out₂ out₁′ out₂
 
 -- what a refusal m at p tells of a text and two buffers; so the extractor itself never refuses
 pub data Refused-for (s out₁ out₂ : Octets) (m p : ℕ) : Type 0 where
-  -- "an argument has a size it may not have": a buffer is not of 85 octets
+  -- 01, number 1, "an argument has a size it may not have": a buffer is not of 85 octets
   wrong-size : (length out₁ ≡ 85 → ⊥) ⊎ (length out₂ ≡ 85 → ⊥) → m ≡ size → p ≡ 0 → Refused-for s out₁ out₂ m p
   -- reading refuses the text
   wrong-text : reading (most * width) s ≡ text.refused m p → Refused-for s out₁ out₂ m p
-  -- "16 at 2, last, more than one code for the drill"
+  -- 02 (vi), "16 at 2, last, more than one code for the drill"
   more-than-one : (ks : List Octets) → reading (most * width) s ≡ accepted ks → 1 < length ks → m ≡ more-codes → p ≡ 2 → Refused-for s out₁ out₂ m p
 
 -- Each answer tells what it was given for, whatever the text and the buffers.

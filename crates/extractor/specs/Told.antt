@@ -6,7 +6,7 @@ use Rattle.answer.specs.declared.Verdict.{Verdict}
 use Rattle.answer.specs.declared.Verdict.the-variants as verdict
 use Rattle.answer.specs.Answer.{present-number, absent-number}
 
--- Present or Absent, by its number; or "that refusal's number, with place 1 or 2 for which attestation"
+-- 01, "Extractor": Present or Absent, by its number; or "that refusal's number, with place 1 or 2 for which attestation"
 unfoldable pub told : ℕ → Verdict → Answer
 told which verdict.Present = Done present-number
 told which verdict.Absent = Done absent-number

@@ -3,5 +3,7 @@ pub mod Profiles
 pub mod Demand1
 pub mod Demand2
 pub mod Demand3
+pub mod DrillContradicts
 pub mod WrongExtractors
 pub mod WrongPrograms
+pub mod Proved

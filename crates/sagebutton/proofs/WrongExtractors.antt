@@ -1,90 +1,93 @@
--- The wrong extractors by two keys and two attestations of one node each: under a constant label function a key is present by its
--- own node alone, and absent by the other's, so the two nodes' records must be shown.
+-- The wrong extractors by demand 3: what is left of a contradiction are two different records, so one that refuses or leaves its buffers
+-- is wrong; and the drill's contradiction, handed over in both orders, asks for two different first records.
 use mathlib.Core.Path.{_≡_, refl, sym, ap, _∙_}
-use mathlib.Core.Bool.{false}
-use mathlib.Core.List.{[]}
+use mathlib.Core.Bool.{true}
+use mathlib.Core.Logic.{inl, inr}
 use mathlib.Core.Option.{none}
-use Prim.Native.Nat.{ℕ}
+use Prim.Native.Nat.{ℕ, zero, suc}
 use native.Mathlib.Omega.{arith}
-use lib.ListN.{length, replicate, getD}
-use Rattle.octets.specs.Order.{Octets, order, same}
-use Rattle.attester.specs.Entry.{key}
-use Rattle.attester.specs.Record.{flag, child-octets, node-record}
-use Rattle.attester.specs.Path.{foot, foot-entry, foot-left, foot-right, height}
+use borrow.Author.Tests.{eq-eqb}
+use lib.ListN.{length, replicate}
+use Rattle.answer.specs.declared.Answer.{Answer}
+use Rattle.answer.specs.declared.Answer.the-variants.{Refused}
+use Rattle.octets.specs.Order.{Octets}
+use Rattle.profile.specs.Profile.{drill, label}
+use Rattle.attester.specs.Record.{Child, Labels}
+use Rattle.attester.specs.Path.{foot, down}
+use Rattle.attester.specs.Verdict.{Judgement, present, absent, Accepted, root-record}
 use Rattle.attester.specs.Form.{shown}
-use Rattle.attester.specs.Verdict.{side, child-there, hidden, fault, root-record, judge}
 use Rattle.attester.specs.Verify.{verify}
-use Rattle.attester.specs.Attestation.{render}
-use Rattle.attester.specs.Walk.{walk}
-use Rattle.attester.specs.Extract.{extracted, contradiction, sized, extract}
-use Rattle.attester.specs.Extract as extraction
-use Rattle.attester.proofs.FormLaws.{form-of-render}
-use Rattle.attester.proofs.VerifyLaws.{verify-rendered}
+use Rattle.attester.specs.Extract.{extracted, refused, sized, extract}
+use Rattle.attester.proofs.VerifyLaws.{verify-accepted}
+use Rattle.attester.proofs.Demand3.{demand-3, verdicts-tell-paths}
+use Rattle.attester.proofs.ExtractLaws.{extract-found}
 use Rattle.tree.specs.Edition.{width}
-use Rattle.extractor.specs.Extract.{first-record}
-use Rattle.sagebutton.specs.WrongPrograms.{zeros, Contradictory, Does-nothing, Shows-one-pair}
+use Rattle.extractor.specs.Extract.{Extracted}
+use Rattle.examples.specs.Values.{lone-record, number-16401}
+use Rattle.contradiction.proofs.NumberLaws.{key-length}
+use Rattle.contradiction.proofs.ShownLaws.{shows-foot, differ}
+use Rattle.sagebutton.specs.Demand3.{Contradict, Collides}
+use Rattle.sagebutton.specs.WrongPrograms.{Contradictory, Extracts-nothing, Refuses-two, Leaves-buffers, Shows-one-pair}
+use Rattle.sagebutton.proofs.Demand3 as demand3
+use Rattle.sagebutton.proofs.DrillContradicts.{code, shared, absence, presence, code-sized, other, are-alike, drill-contradicts, drill-contradicts-swapped}
 
--- Two keys
-abbrev pub low : Octets
-low = replicate 20 0
+-- two buffers of 85 octets
+zeros : Octets
+zeros = replicate 85 0
 
-abbrev pub high : Octets
-high = replicate 20 1
+zeros-sized : length zeros ≡ 85
+unfolding zeros
+zeros-sized = refl
 
--- the attestation of a node alone
-abbrev node-of : Octets → Octets
-node-of e = render (foot e none none)
+-- Over any label function
 
--- the verdict on it is the verdict on its path
-module _ (x e : Octets) (m : length x ≡ 20) (n : length e ≡ 20) where
-  node-of-judged : verify zeros width x (zeros []) (node-of e) ≡ judge zeros x (zeros []) (foot e none none)
-  unfolding height
-  node-of-judged = verify-rendered zeros width x (zeros []) (foot e none none) m refl (n, tt, tt) (omega arith)
+module _ (H : Octets → Octets) (H-length : Labels H) (x d a b : Octets) where
+  -- what the walk finds is extracted
+  found : Accepted (verify H width x d a) → Accepted (verify H width x d b) → (verify H width x d a ≡ verify H width x d b → ⊥)
+      → Extracts-nothing H x d a b → ⊥
+  unfolding sized
+  found f s apart h =
+      let w = demand-3 H width H-length x d a b f s (verdicts-tell-paths H width x d a b f s apart) in
+      let v = verify-accepted H width x d a f in
+      let sizes : sized width (length x) (length d) 85 85 ≡ true = rw (eq-eqb (length x) 20 (v .key-size), eq-eqb (length d) 32 (v .digest-size)) in
+      let e : refused (h .0) (h .1) ≡ extracted (w .found) = sym (h .2) ∙ extract-found H width x d a b 85 85 sizes f s apart (w .found) (w .is) in
+      let z : _≡_ {A = ℕ} 0 1 = cc in
+      omega arith
 
-low-contradictory : Contradictory zeros low (zeros []) (node-of low) (node-of high)
-unfolding judge hidden child-there side fault same key order foot-entry foot-left foot-right
-low-contradictory = record { first = node-of-judged low low refl refl; second = node-of-judged low high refl refl }
+  pub extracts-nothing : Contradictory H x d a b → Extracts-nothing H x d a b → ⊥
+  extracts-nothing (inl c) = found (rw (c .0) tt) (rw (c .1) tt) (λ e. let z : _≡_ {A = ℕ} 0 1 = cc (c .0, c .1) in omega arith)
+  extracts-nothing (inr c) = found (rw (c .0) tt) (rw (c .1) tt) (λ e. let z : _≡_ {A = ℕ} 0 1 = cc (c .0, c .1) in omega arith)
 
-high-contradictory : Contradictory zeros high (zeros []) (node-of high) (node-of low)
-unfolding judge hidden child-there side fault same key order foot-entry foot-left foot-right
-high-contradictory = record { first = node-of-judged high high refl refl; second = node-of-judged high low refl refl }
+-- Of the promise
 
-node-of-shows : (e : Octets) → length e ≡ 20 → shown width (node-of e) ≡ foot e none none
-unfolding shown height
-node-of-shows e n = rw (form-of-render width (foot e none none) (n, tt, tt) (omega arith))
-
--- what must be shown: the nodes' records
-abbrev record-of : Octets → Octets
-record-of e = node-record none e none
-
-module _ (x y : Octets) (m : length x ≡ 20) (n : length y ≡ 20) (c : Contradictory zeros x (zeros []) (node-of x) (node-of y)) where
-  must-show : same (record-of x) (record-of y) ≡ false
-      → extract zeros width x (zeros []) (node-of x) (node-of y) 85 85 ≡ extracted record { passed = 0; first = record-of x; second = record-of y }
-  unfolding extract sized contradiction walk root-record
-  must-show differ = rw (m, c .first, c .second, node-of-shows x m, node-of-shows y n, differ)
-
-low-shown : extract zeros width low (zeros []) (node-of low) (node-of high) 85 85 ≡ extracted record { passed = 0; first = record-of low; second = record-of high }
-unfolding same order node-record child-octets flag
-low-shown = must-show low high refl refl low-contradictory refl
-
-high-shown : extract zeros width high (zeros []) (node-of high) (node-of low) 85 85 ≡ extracted record { passed = 0; first = record-of high; second = record-of low }
-unfolding same order node-record child-octets flag
-high-shown = must-show high low refl refl high-contradictory refl
-
-pub does-nothing : Does-nothing zeros → ⊥
-does-nothing h =
-    let r = h low (zeros []) (node-of low) (node-of high) low-contradictory in
-    let e : extraction.refused (r .0) (r .1) ≡ extracted record { passed = 0; first = record-of low; second = record-of high } = sym (r .2) ∙ low-shown in
+pub refuses-two : (profile : ℕ) (x d a b : Octets) → Contradict profile x d a b → Refuses-two profile x d a b → ⊥
+refuses-two profile x d a b c h =
+    let r = h zeros zeros zeros-sized zeros-sized in
+    let e = demand3.demand-3 profile x d a b c zeros zeros zeros-sized zeros-sized (Refused (r .0) (r .1)) (r .2) (r .3) (r .4) .answers in
     let z : _≡_ {A = ℕ} 0 1 = cc in
     omega arith
 
-keys-differ : record-of low ≡ record-of high → ⊥
-unfolding node-record child-octets
-keys-differ e = let z : _≡_ {A = ℕ} 0 1 = ap (λ s. getD s 33 0) e in omega arith
+pub leaves-buffers : (profile : ℕ) (x d a b : Octets) → Contradict profile x d a b → Leaves-buffers profile x d a b → ⊥
+leaves-buffers profile x d a b c h =
+    let r = h zeros zeros zeros-sized zeros-sized in
+    demand3.demand-3 profile x d a b c zeros zeros zeros-sized zeros-sized (r .0) zeros zeros (r .1) .differ refl
 
-pub shows-one-pair : (r s : Octets) → Shows-one-pair zeros r s → ⊥
-unfolding first-record
+-- a foot is the path on every level
+down-foot : (i : ℕ) (e : Octets) (l r : Child) → down i (foot e l r) ≡ foot e l r
+unfolding down
+down-foot zero e l r = refl
+down-foot (suc i) e l r = refl
+
+-- the first record that must be shown of an attestation that shows a foot alone
+shown-first : (x d a b e r s : Octets) → shown width a ≡ foot e none none → Contradict drill x d a b → Shows-one-pair drill r s → r ≡ lone-record e
+unfolding root-record
+shown-first x d a b e r s f c h =
+    let t = h x d a b c zeros zeros zeros-sized zeros-sized in
+    let n = demand3.demand-3 drill x d a b c zeros zeros zeros-sized zeros-sized (t .0) r s (t .1) in
+    n .first-rebuilt .is ∙ rw (f, down-foot (n .passed) e none none)
+
+pub shows-one-pair : (r s : Octets) → Shows-one-pair drill r s → ⊥
 shows-one-pair r s h =
-    let p : r ≡ record-of low = ap first-record (sym (h low (zeros []) (node-of low) (node-of high) low-contradictory .1) ∙ low-shown) in
-    let q : r ≡ record-of high = ap first-record (sym (h high (zeros []) (node-of high) (node-of low) high-contradictory .1) ∙ high-shown) in
-    keys-differ (sym p ∙ q)
+    let p = shown-first number-16401 shared absence presence code r s (shows-foot code code-sized 16401 code code-sized) drill-contradicts h in
+    let q = shown-first number-16401 shared presence absence number-16401 r s (shows-foot code code-sized 16401 number-16401 (key-length 16401)) drill-contradicts-swapped h in
+    differ code code-sized 16401 other are-alike (sym p ∙ q)

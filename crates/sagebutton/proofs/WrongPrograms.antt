@@ -1,34 +1,41 @@
--- Each wrong program by one small input on which the promise says otherwise: the list of one key, the text of one code, the list
--- of two keys. The extractors are in `WrongExtractors`.
-use mathlib.Core.Path.{_≡_, refl, sym, ap, _∙_}
+-- Each wrong program by one small input on which the promise says otherwise: two messages, the list of one key, the text of one code,
+-- document 01's list F. The extractors are in `WrongExtractors`.
+use mathlib.Core.Path.{_≡_, refl, sym, ap, _∙_, subst⁻¹}
 use mathlib.Core.Bool.{true}
 use mathlib.Core.List.{List, [], _∷_, _++_, flatten}
+use mathlib.Core.Logic.{inl, inr}
 use mathlib.Core.Option.{none, some}
-use Prim.Native.Nat.{ℕ, _≤_}
+use Prim.Native.Nat.{ℕ, _≤_, _<_}
 use native.Mathlib.Omega.{arith}
-use borrow.Author.Tests.{le-leb}
-use lib.ListN.{length, drop, replicate, getD, length-take, length-append, length-replicate}
+use borrow.Author.Tests.{le-leb, le-ltb}
+use lib.ListN.{length, drop, replicate, getD}
+use Rattle.answer.specs.declared.Answer.{Answer}
 use Rattle.answer.specs.declared.Answer.the-variants.{Done, Refused}
 use Rattle.answer.specs.declared.Verdict.{Verdict}
 use Rattle.answer.specs.declared.Verdict.the-variants as verdict
 use Rattle.answer.specs.Answer.{written}
 use Rattle.answer.specs.Refusals.{too-short}
-use Rattle.octets.specs.Order.{Octets, order, same}
-use Rattle.profile.specs.Profile.{known, label}
-use Rattle.profile.proofs.ProfileLaws.{label-length, in-known}
+use Rattle.octets.specs.Order.{Octets, Are-octets, order, same}
+use Rattle.octets.proofs.OctetLaws.{octets-append, octets-zeros}
+use Rattle.sha256.specs.Fips180.{octets, sha256}
+use Rattle.sha256.specs.Hash.{hash-answer, Hashed}
+use Rattle.sha256.proofs.Examples.{examples}
+use Rattle.profile.specs.Profile.{full, drill, short, known, label}
+use Rattle.profile.proofs.ProfileLaws.{label-length, label-full, label-drill, in-known, known-numbers}
 use Rattle.attester.specs.Entry.{key}
-use Rattle.attester.specs.Record.{flag, child-octets, node-record, Labels}
-use Rattle.attester.specs.Tree.{tree-within, tree}
+use Rattle.attester.specs.Record.{Child, flag, child-octets, node-record, Labels}
+use Rattle.attester.specs.Tree.{leaf, tree-within, tree}
 use Rattle.attester.specs.Label.{digest}
 use Rattle.attester.specs.Label as labels
 use Rattle.attester.specs.Listing.{Listing}
-use Rattle.attester.specs.Path.{foot, step, foot-entry, foot-left, foot-right}
+use Rattle.attester.specs.Path.{foot, foot-entry, foot-left, foot-right}
 use Rattle.attester.specs.Verdict.{Judgement, present, absent, side, root-record, judge}
 use Rattle.attester.specs.Verdict as judgement
 use Rattle.attester.specs.Verify.{judged, verify}
 use Rattle.attester.specs.Search.{search, listed}
 use Rattle.attester.specs.Attestation.{attestation}
 use Rattle.attester.proofs.AdmissionLaws.{listing-admitted}
+use Rattle.attester.proofs.RecordLaws.{record-length}
 use Rattle.attester.proofs.VerdictLaws.{judge-passed}
 use Rattle.attester.proofs.AttestationLaws.{form-of-attestation}
 use Rattle.attester.proofs.Demand2 as theory
@@ -39,9 +46,34 @@ use Rattle.codes.specs.Read.{answer, keys}
 use Rattle.tree.specs.Edition.{width, most}
 use Rattle.attestation.specs.Attest.{issue-answer, attest-answer}
 use Rattle.attestation.specs.Verify.{Verified, verdict-of}
-use Rattle.sagebutton.specs.WrongPrograms.{Issued, Refuses-all, Absent-to-all, Always-6, Writes-no-keys, Another-count, Collision, foot-only, Foot-suffices, Foot-verifies, front, Wrong-programs-rejected}
+use Rattle.examples.specs.F.{code-1-1, code-2-7, code-3-4, code-3-40, code-A-2, F}
+use Rattle.examples.specs.Box.{over, lone}
+use Rattle.examples.specs.Values.{lone-record}
+use Rattle.examples.proofs.Box.{F-listing}
+use Rattle.examples.proofs.Values.{values}
+use Rattle.sagebutton.specs.WrongPrograms.{Constant-hash, Issued, Refuses-all, Absent-to-all, Always-6, Writes-no-keys, Another-count, Collision, foot-of, foot-only, Foot-suffices, Foot-verifies, Wrong-programs-rejected}
 use Rattle.sagebutton.proofs.Demand2.{demand-2}
-use Rattle.sagebutton.proofs.WrongExtractors.{low, high, does-nothing, shows-one-pair}
+use Rattle.sagebutton.proofs.WrongExtractors.{extracts-nothing, refuses-two, leaves-buffers, shows-one-pair}
+
+-- a key
+abbrev low : Octets
+low = replicate 20 0
+
+-- The hash: of no octets it begins with 0xe3, of "abc" with 0xba
+
+hashed : (msg h d : Octets) {r : Answer} → length msg ≤ 65535 → Hashed msg (replicate 32 0) r h → sha256 msg ≡ d → h ≡ d ++ drop (length d) (replicate 32 0)
+unfolding hash-answer written
+hashed msg h d {r} few p e =
+    let done : r ≡ Done (length msg) = p .answered ∙ rw (le-ltb 65535 (length msg) few) refl in
+    rw (done, e) at (p .left)
+
+constant-hash : (h : Octets) → Constant-hash h → ⊥
+unfolding octets
+constant-hash h c =
+    let none-is = hashed [] h _ (omega arith) (c [] (replicate 32 0) (omega arith) refl .1) (examples .no-octets) in
+    let abc-is = hashed (octets 3 0x616263) h _ (omega arith) (c (octets 3 0x616263) (replicate 32 0) (omega arith) refl .1) (examples .abc) in
+    let z : _≡_ {A = ℕ} 0xe3 0xba = ap (λ s. getD s 0 0) (sym none-is ∙ abc-is) in
+    omega arith
 
 -- The verifiers: in the list of one key, that key is present
 
@@ -130,69 +162,84 @@ another-count h =
     let e : Done (r .0) ≡ Done 1 = rw text-1-accepted at (r .3 .answered) in
     r .2 cc
 
--- The verifier that ignores the levels above: in the list of two keys, the lower one's record is not the root's
+-- The verifier that ignores the levels above: in F, the record of 1-1 is not the root's
 
-two : List Octets
-two = low ∷ high ∷ []
+flag-small : (l r : Child) → flag l r < 256
+unfolding flag
+flag-small none none = omega arith
+flag-small none (some r) = omega arith
+flag-small (some l) none = omega arith
+flag-small (some l) (some r) = omega arith
 
-two-listing : Listing width most two
-unfolding two key order
-two-listing = record {
-  some-entry = omega arith;
-  few = omega arith;
-  sized = (refl, (refl, tt));
-  ascending = ((refl, tt), (tt, tt));
-}
+-- octets and labels of octets make a record of octets
+record-octets : (l : Child) (e : Octets) (r : Child) → Are-octets (child-octets l) → Are-octets e → Are-octets (child-octets r) → Are-octets (node-record l e r)
+unfolding node-record
+record-octets l e r f g h = (flag-small l r, octets-append (child-octets l) (e ++ child-octets r) f (octets-append e (child-octets r) g h))
+
+-- the key of a code of three characters
+code-octets : (a b c : ℕ) → a < 256 → b < 256 → c < 256 → Are-octets (a ∷ b ∷ c ∷ replicate 17 0)
+code-octets a b c f g h = (f, (g, (h, octets-zeros 17)))
 
 module _ (H : Octets → Octets) where
-  -- the two records
+  -- the records of 1-1 and of the root, 3-4
   abbrev foot-record : Octets
-  foot-record = node-record none low none
+  foot-record = lone-record (key-of code-1-1)
+
+  abbrev left : Child
+  left = labels.label H (over code-2-7 (lone code-1-1) leaf)
+
+  abbrev right : Child
+  right = labels.label H (over code-A-2 (lone code-3-40) leaf)
 
   abbrev top-record : Octets
-  top-record = node-record (some (H foot-record)) high none
+  top-record = node-record left (key-of code-3-4) right
 
-  two-path : search H low (tree two) ≡ step high none (foot low none none)
-  unfolding two tree tree-within search side key order labels.label
-  two-path = refl
+  foot-path : foot-of (search H (key-of code-1-1) (tree F)) ≡ foot (key-of code-1-1) none none
+  unfolding tree tree-within search side key key-of order labels.label foot-entry foot-left foot-right
+  foot-path = refl
 
-  two-digest : digest H two ≡ H top-record
-  unfolding two tree tree-within labels.label digest child-octets
-  two-digest = refl
+  F-digest : digest H F ≡ H top-record
+  unfolding tree tree-within labels.label digest child-octets
+  F-digest = refl
 
-  two-listed : listed low two ≡ true
-  unfolding two listed same key order
-  two-listed = refl
+  F-lists : listed (key-of code-1-1) F ≡ true
+  unfolding listed same key key-of order
+  F-lists = refl
 
-  foot-only-judges : Labels H → foot-only H low (digest H two) (attestation H two low) ≡ judge H low (H top-record) (foot low none none)
-  unfolding foot-only judged foot-entry foot-left foot-right
-  foot-only-judges H-length = rw (form-of-attestation H H-length width most two low two-listing (omega arith), two-path, two-digest)
+  key-sized : length (key-of code-1-1) ≡ 20
+  unfolding key-of
+  key-sized = refl
 
-  one-label : Labels H → Foot-suffices H → H foot-record ≡ H top-record
+  foot-only-judges : Labels H
+      → foot-only H (key-of code-1-1) (digest H F) (attestation H F (key-of code-1-1)) ≡ judge H (key-of code-1-1) (digest H F) (foot (key-of code-1-1) none none)
+  unfolding foot-only judged
+  foot-only-judges H-length =
+      rw (form-of-attestation H H-length width most F (key-of code-1-1) F-listing (omega arith), foot-path)
+
+  one-label : Labels H → Foot-suffices H → H foot-record ≡ digest H F
   unfolding root-record
   one-label H-length h =
-      let e : judge H low (H top-record) (foot low none none) ≡ present = sym (foot-only-judges H-length) ∙ (h two low two-listing refl ∙ rw two-listed) in
-      judge-passed H low (H top-record) (foot low none none) (rw e tt) .hashes
+      let e : judge H (key-of code-1-1) (digest H F) (foot (key-of code-1-1) none none) ≡ present =
+      sym (foot-only-judges H-length) ∙ (h F (key-of code-1-1) F-listing key-sized ∙ rw F-lists) in
+      judge-passed H (key-of code-1-1) (digest H F) (foot (key-of code-1-1) none none) (rw e tt) .hashes
 
-front-labels : Labels front
-front-labels r = simp (length-take, length-append, length-replicate) (omega arith)
+  -- octet 0 is 0 in one record and 3 in the other
+  records-differ : foot-record ≡ top-record → ⊥
+  unfolding node-record flag labels.label
+  records-differ e = let z : _≡_ {A = ℕ} 0 3 = ap (λ s. getD s 0 0) e in omega arith
 
--- octet 0 is 0 in one record and 1 in the other
-fronts-differ : front (foot-record front) ≡ front (top-record front) → ⊥
-unfolding node-record flag
-fronts-differ e = let z : _≡_ {A = ℕ} 0 1 = ap (λ s. getD s 0 0) e in omega arith
-
-records-differ : (H : Octets → Octets) → foot-record H ≡ top-record H → ⊥
-unfolding node-record flag
-records-differ H e = let z : _≡_ {A = ℕ} 0 1 = ap (λ s. getD s 0 0) e in omega arith
-
-foot-suffices-collides : (H : Octets → Octets) → Labels H → Foot-suffices H → Collision H
-foot-suffices-collides H H-length h = record {
-  first = foot-record H;
-  second = top-record H;
-  differ = records-differ H;
-  same-label = one-label H H-length h;
-}
+  foot-suffices-collides : Labels H → ((r : Octets) → Are-octets (H r)) → Foot-suffices H → Collision H
+  unfolding child-octets labels.label key-of
+  foot-suffices-collides H-length H-octets h = record {
+    first = foot-record;
+    second = top-record;
+    first-size = record-length 20 none (key-of code-1-1) none tt refl tt;
+    second-size = record-length 20 left (key-of code-3-4) right (H-length _) refl (H-length _);
+    first-octets = record-octets none (key-of code-1-1) none (octets-zeros 32) (code-octets 0x31 0x2D 0x31 (omega arith) (omega arith) (omega arith)) (octets-zeros 32);
+    second-octets = record-octets left (key-of code-3-4) right (H-octets _) (code-octets 0x33 0x2D 0x34 (omega arith) (omega arith) (omega arith)) (H-octets _);
+    differ = records-differ;
+    same-label = one-label H-length h ∙ F-digest;
+  }
 
 -- a verdict tells its judgement
 judgement-of : Verdict → Judgement
@@ -215,16 +262,36 @@ foot-verifies-suffices profile k h list x l n =
     ∙ (ap judgement-of (v .answered ∙ in-known verdict.Refused profile (verdict-of (verify (label profile) width x d a)) k) ∙ judgement-of-verdict (verify (label profile) width x d a))
     ∙ theory.demand-2 (label profile) width most (label-length profile) (omega arith) list x l n
 
+-- in each profile the two labels differ in their first octet
+labels-differ : (profile : ℕ) → known profile ≡ true → label profile (lone-record (key-of code-1-1)) ≡ digest (label profile) F → ⊥
+unfolding octets
+labels-differ profile k = elim (known-numbers profile k) [
+  | inl e ↦ subst⁻¹ (λ (p : ℕ). label p (lone-record (key-of code-1-1)) ≡ digest (label p) F → ⊥) e in-full
+  | inr e ↦ subst⁻¹ (λ (p : ℕ). label p (lone-record (key-of code-1-1)) ≡ digest (label p) F → ⊥) e in-drill
+]
+  where
+    in-full : label full (lone-record (key-of code-1-1)) ≡ digest (label full) F → ⊥
+    in-full e =
+        let z : _≡_ {A = ℕ} 0x55 0x19 = ap (λ s. getD s 0 0) (sym (label-full (lone-record (key-of code-1-1)) ∙ values .lone-1-1) ∙ e ∙ values .F-full) in
+        omega arith
+
+    in-drill : label drill (lone-record (key-of code-1-1)) ≡ digest (label drill) F → ⊥
+    in-drill e =
+        let z : _≡_ {A = ℕ} 0x55 0xb8 = ap (λ s. getD s 0 0) (sym (label-drill (lone-record (key-of code-1-1)) ∙ ap short (values .lone-1-1)) ∙ e ∙ values .F-drill) in
+        omega arith
+
 pub wrong-programs-rejected : Wrong-programs-rejected
 wrong-programs-rejected = record {
+  constant-hash = constant-hash;
   refuses-all = refuses-all;
   absent-to-all = absent-to-all;
   always-6 = always-6;
   writes-no-keys = writes-no-keys;
   another-count = another-count;
-  foot-suffices = λ h. fronts-differ (one-label front front-labels h);
+  foot-verifies = λ profile k h. labels-differ profile k (one-label (label profile) (label-length profile) (foot-verifies-suffices profile k h));
   foot-suffices-collides = foot-suffices-collides;
-  foot-verifies-collides = λ profile k h. foot-suffices-collides (label profile) (label-length profile) (foot-verifies-suffices profile k h);
-  does-nothing = does-nothing;
+  extracts-nothing = extracts-nothing;
+  refuses-two = refuses-two;
+  leaves-buffers = leaves-buffers;
   shows-one-pair = shows-one-pair;
 }

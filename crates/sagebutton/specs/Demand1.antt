@@ -1,5 +1,5 @@
--- Demand 1: every input gets an answer or a numbered refusal; "A refusal leaves the lent buffers untouched; no line of a list is
--- ever skipped." Proved in `proofs/Demand1.antt`; that every input has an answer, and one only, is `OneOutcome`.
+-- Demand 1 (`docs/PROMISES.md`): a refusal leaves the lent buffers as they were, and no line of a list is skipped. Proved in
+-- `proofs/Demand1.antt`; that every input has an answer, and one only, is `OneOutcome`.
 use mathlib.Core.Path.{_≡_}
 use mathlib.Core.List.{map}
 use Prim.Native.Nat.{ℕ}

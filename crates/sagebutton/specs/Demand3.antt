@@ -1,9 +1,9 @@
--- Demand 3: "For any key, any digest (it may come from no list at all) and any two attestations, whoever made them: if the verifier
--- says Present to one and Absent to the other, the extractor returns two different node records, one rebuilt from each, with the
--- same hash." It is stated of what the functions promise, so of what a caller holds in its buffers, and proved in
--- `proofs/Demand3.antt`. 02 (vi): the hash is the profile's label, "under one profile number throughout: digest, issue, both verdicts
+-- Demand 3 (`docs/PROMISES.md`): of any key, any digest, even of no list, and any two attestations, whoever made them, one judged
+-- Present and the other Absent, the extractor makes two different node records, one rebuilt from each, with the same hash. It is stated
+-- of what the functions promise, so of what a caller holds in its buffers, and proved in `proofs/Demand3.antt`. 02 (vi): the hash is the profile's label, "under one profile number throughout: digest, issue, both verdicts
 -- and extractor alike"; `attester` has the same over any function from records to labels.
 use mathlib.Core.Path.{_≡_}
+use mathlib.Core.List.{[], _∷_}
 use mathlib.Core.Logic.{_⊎_}
 use Prim.Native.Nat.{ℕ}
 use lib.ListN.{length}
@@ -12,12 +12,17 @@ use Rattle.answer.specs.declared.Answer.the-variants.{Done}
 use Rattle.answer.specs.declared.Verdict.the-variants.{Present, Absent}
 use Rattle.octets.specs.Order.{Octets}
 use Rattle.sha256.specs.Hash.{Hashed}
-use Rattle.profile.specs.Profile.{kept, label}
+use Rattle.profile.specs.Profile.{drill, kept, label}
+use Rattle.attester.specs.Label.{digest}
 use Rattle.attester.specs.Form.{shown}
+use Rattle.attester.specs.Attestation.{attestation}
 use Rattle.attester.specs.Demand3.{Rebuilt}
+use Rattle.codes.specs.Code.{key-of}
 use Rattle.tree.specs.Edition.{width}
 use Rattle.attestation.specs.Verify.{Verified}
 use Rattle.extractor.specs.Extract.{Extracted}
+use Rattle.examples.specs.F.{code-3-4}
+use Rattle.examples.specs.Values.{number-16401}
 
 -- Anyone can check that two records have the same label by `hash`: it accepts each, and of the 32 octets that it leaves of each, what
 -- the profile keeps is equal. The full profile keeps them all.
@@ -46,3 +51,11 @@ Demand-3 =
     (profile : ℕ) (x d a b : Octets) → Contradict profile x d a b
     → (out₁ out₂ : Octets) → length out₁ ≡ 85 → length out₂ ≡ 85
     → (r : Answer) (out₁′ out₂′ : Octets) → Extracted profile x d a b out₁ out₂ r out₁′ out₂′ → Collides profile x a b r out₁′ out₂′
+
+-- There are such contradictions in the drill, so demand 3 does not speak of nothing: `docs/DRILL.md`'s, for the number 16,401 as a key,
+-- under the digest of the list of 3-4 alone. It is absent by the attestation that is issued there, and present by the one issued under
+-- the list of the number alone, whose digest is the same.
+abbrev pub Drill-contradicts : Type 0
+Drill-contradicts =
+    Contradict drill number-16401 (digest (label drill) (key-of code-3-4 ∷ []))
+    (attestation (label drill) (key-of code-3-4 ∷ []) number-16401) (attestation (label drill) (number-16401 ∷ []) number-16401)

@@ -1,17 +1,18 @@
 -- 01, "Promises that bind": "Try these on the promises and see them rejected". Of each wrong program it is said what it always does,
--- and `Wrong-programs-rejected` that none which does so keeps the promise. Proved in `proofs/WrongPrograms.antt`. One is not here:
--- that "a constant hash" is rejected takes two values of SHA-256, which the logic does not compute; `constant_hash.edit` of the
--- crate sha256 tries that program.
+-- and `Wrong-programs-rejected` that none which does so keeps the promise. Proved in `proofs/WrongPrograms.antt`.
 use mathlib.Core.Path.{_≡_}
 use mathlib.Core.Bool.{true, cond}
-use mathlib.Core.List.{List, _++_, flatten}
+use mathlib.Core.List.{List, flatten}
+use mathlib.Core.Logic.{_⊎_}
 use Prim.Native.Nat.{ℕ, _≤_}
-use lib.ListN.{length, take, replicate}
+use lib.ListN.{length}
+use Rattle.answer.specs.declared.Answer.{Answer}
 use Rattle.answer.specs.declared.Answer.the-variants.{Done, Refused}
 use Rattle.answer.specs.declared.Verdict.the-variants as verdict
 use Rattle.answer.specs.Refusals.{too-short}
-use Rattle.octets.specs.Order.{Octets}
-use Rattle.profile.specs.Profile.{known, label}
+use Rattle.octets.specs.Order.{Octets, Are-octets}
+use Rattle.sha256.specs.Hash.{Hashed}
+use Rattle.profile.specs.Profile.{drill, known, label}
 use Rattle.attester.specs.Record.{Labels}
 use Rattle.attester.specs.Label.{digest}
 use Rattle.attester.specs.Listing.{Listing}
@@ -21,13 +22,18 @@ use Rattle.attester.specs.Form.{form}
 use Rattle.attester.specs.Verify.{judged, verify}
 use Rattle.attester.specs.Search.{listed}
 use Rattle.attester.specs.Attestation.{attestation}
-use Rattle.attester.specs.Extract.{extracted, extract}
-use Rattle.attester.specs.Extract as extraction
+use Rattle.attester.specs.Extract.{refused, extract}
 use Rattle.codes.specs.Text.{accepted, reading}
 use Rattle.codes.specs.Read.{Read}
 use Rattle.tree.specs.Edition.{width, most}
 use Rattle.attestation.specs.Attest.{Attested}
 use Rattle.attestation.specs.Verify.{Verified, verdict-of}
+use Rattle.extractor.specs.Extract.{Extracted}
+use Rattle.sagebutton.specs.Demand3.{Contradict}
+
+-- "a constant hash": the same octets h are left of every message that is accepted, whatever is answered
+abbrev pub Constant-hash : Octets → Type 0
+Constant-hash h = (msg out : Octets) → length msg ≤ 65535 → length out ≡ 32 → (r : Answer) × Hashed msg out r h
 
 -- in a profile, d is an accepted list's digest, and a the attestation that is issued for the key x under that list
 pub record Issued (profile : ℕ) (list : List Octets) (x d a : Octets) : Type 0 where
@@ -58,10 +64,14 @@ abbrev pub Another-count : Type 0
 Another-count = (text out : Octets) (ks : List Octets) → reading (length out) text ≡ accepted ks
     → (n : ℕ) × (out′ : Octets) × (n ≡ length ks → ⊥) × Read text out (Done n) out′
 
--- two different records with one label
+-- two different node records, of 85 octets each, with one label
 pub record Collision (H : Octets → Octets) : Type 0 where
   pub first : Octets
   pub second : Octets
+  pub first-size : length first ≡ 85
+  pub second-size : length second ≡ 85
+  pub first-octets : Are-octets first
+  pub second-octets : Are-octets second
   pub differ : first ≡ second → ⊥
   pub same-label : H first ≡ H second
 
@@ -82,40 +92,43 @@ Foot-suffices H = (list : List Octets) (x : Octets) → Listing width most list 
 abbrev pub Foot-verifies : ℕ → Type 0
 Foot-verifies profile = (list : List Octets) (x d a : Octets) → Issued profile list x d a → Verified profile x d a (verdict-of (foot-only (label profile) x d a))
 
--- a label function to compute with: a record's first 32 octets
-abbrev pub front : Octets → Octets
-front r = take 32 (r ++ replicate 32 0)
+-- two attestations that contradict each other, by the label function H: Present and Absent, or Absent and Present
+abbrev pub Contradictory : (Octets → Octets) → Octets → Octets → Octets → Octets → Type 0
+Contradictory H x d a b =
+    ((verify H width x d a ≡ present) × (verify H width x d b ≡ absent)) ⊎ ((verify H width x d a ≡ absent) × (verify H width x d b ≡ present))
 
--- one under which there are contradictions, since all records have the same label: 32 zeros
-abbrev pub zeros : Octets → Octets
-zeros r = replicate 32 0
+-- "an extractor that does nothing": it refuses these two attestations, by the label function H
+abbrev pub Extracts-nothing : (Octets → Octets) → Octets → Octets → Octets → Octets → Type 0
+Extracts-nothing H x d a b = (m : ℕ) × (p : ℕ) × (extract H width x d a b 85 85 ≡ refused m p)
 
--- two attestations that contradict each other, by the label function H: Present and Absent
-pub record Contradictory (H : Octets → Octets) (x d a b : Octets) : Type 0 where
-  pub first : verify H width x d a ≡ present
-  pub second : verify H width x d b ≡ absent
+-- the same of the promise: it refuses,
+abbrev pub Refuses-two : ℕ → Octets → Octets → Octets → Octets → Type 0
+Refuses-two profile x d a b = (out₁ out₂ : Octets) → length out₁ ≡ 85 → length out₂ ≡ 85
+    → (m : ℕ) × (p : ℕ) × (out₁′ : Octets) × (out₂′ : Octets) × Extracted profile x d a b out₁ out₂ (Refused m p) out₁′ out₂′
 
--- "an extractor that does nothing"
-abbrev pub Does-nothing : (Octets → Octets) → Type 0
-Does-nothing H = (x d a b : Octets) → Contradictory H x d a b → (m : ℕ) × (p : ℕ) × (extract H width x d a b 85 85 ≡ extraction.refused m p)
+-- or, whatever it answers, it leaves its buffers as they were
+abbrev pub Leaves-buffers : ℕ → Octets → Octets → Octets → Octets → Type 0
+Leaves-buffers profile x d a b = (out₁ out₂ : Octets) → length out₁ ≡ 85 → length out₂ ≡ 85 → (r : Answer) × Extracted profile x d a b out₁ out₂ r out₁ out₂
 
--- "or shows one stored pair to everyone"
-abbrev pub Shows-one-pair : (Octets → Octets) → Octets → Octets → Type 0
-Shows-one-pair H r s = (x d a b : Octets) → Contradictory H x d a b
-    → (i : ℕ) × (extract H width x d a b 85 85 ≡ extracted record { passed = i; first = r; second = s })
+-- "or shows one stored pair to everyone": r and s
+abbrev pub Shows-one-pair : ℕ → Octets → Octets → Type 0
+Shows-one-pair profile r s = (x d a b : Octets) → Contradict profile x d a b
+    → (out₁ out₂ : Octets) → length out₁ ≡ 85 → length out₂ ≡ 85 → (t : Answer) × Extracted profile x d a b out₁ out₂ t r s
 
--- In a profile that is not known every call is refused with 17, and a verifier that refuses all is right; so the first ask for a known
--- one. None of SHA-256's labels is computed here: the verifier that ignores the levels above is rejected over a label function that can
--- be computed with, and in a profile it would give a collision, which the full one does not offer; the extractors are rejected over one
--- under which there are contradictions.
+-- In a profile that is not known every call is refused with 17, and a verifier that refuses all is right; so these ask for a known one.
+-- The verifier that looks at the foot alone is rejected in each, and over any label function it would give a collision. An extractor
+-- that does nothing with any two attestations that contradict each other is rejected, over any label function and in each profile; that
+-- there are such attestations is known of the drill (`Demand3`), so there one that shows a stored pair is rejected too.
 pub record Wrong-programs-rejected : Type 0 where
+  pub constant-hash : (h : Octets) → Constant-hash h → ⊥
   pub refuses-all : (profile : ℕ) → known profile ≡ true → Refuses-all profile → ⊥
   pub absent-to-all : (profile : ℕ) → known profile ≡ true → Absent-to-all profile → ⊥
   pub always-6 : (profile : ℕ) → known profile ≡ true → Always-6 profile → ⊥
   pub writes-no-keys : Writes-no-keys → ⊥
   pub another-count : Another-count → ⊥
-  pub foot-suffices : Foot-suffices front → ⊥
-  pub foot-suffices-collides : (H : Octets → Octets) → Labels H → Foot-suffices H → Collision H
-  pub foot-verifies-collides : (profile : ℕ) → known profile ≡ true → Foot-verifies profile → Collision (label profile)
-  pub does-nothing : Does-nothing zeros → ⊥
-  pub shows-one-pair : (r s : Octets) → Shows-one-pair zeros r s → ⊥
+  pub foot-verifies : (profile : ℕ) → known profile ≡ true → Foot-verifies profile → ⊥
+  pub foot-suffices-collides : (H : Octets → Octets) → Labels H → ((r : Octets) → Are-octets (H r)) → Foot-suffices H → Collision H
+  pub extracts-nothing : (H : Octets → Octets) → Labels H → (x d a b : Octets) → Contradictory H x d a b → Extracts-nothing H x d a b → ⊥
+  pub refuses-two : (profile : ℕ) (x d a b : Octets) → Contradict profile x d a b → Refuses-two profile x d a b → ⊥
+  pub leaves-buffers : (profile : ℕ) (x d a b : Octets) → Contradict profile x d a b → Leaves-buffers profile x d a b → ⊥
+  pub shows-one-pair : (r s : Octets) → Shows-one-pair drill r s → ⊥

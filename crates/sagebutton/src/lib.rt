@@ -10,6 +10,7 @@ ghost use Rattle.attestation.specs.Verify.{Verified};
 ghost use Rattle.extractor.specs.Extract.{Extracted};
 ghost use Rattle.contradiction.specs.Drill.{Drilled, drill-packed};
 ghost use Rattle.sagebutton.specs.Packed.{Packed};
+ghost use Rattle.sagebutton.specs.Proved.{Proved};
 use answer::Answer;
 use answer::Verdict;
 use contradiction::Outcome;
@@ -101,9 +102,10 @@ pub extern "C" fn sagebutton_attest(profile: u32, key: &[u8], keys: &[u8], out: 
     answer::pack(attest(profile, key, keys, out))
 }
 
+// Its contract also asks for `Proved`, what the functions say together: nothing else would miss those proofs.
 #[no_mangle]
 pub extern "C" fn sagebutton_verify(profile: u32, key: &[u8], digest: &[u8], att: &[u8]) -> u64
-    ensures { λ r. ⌜ Packed verdict-packed (Verified profile (now (key .entry)) (now (digest .entry)) (now (att .entry))) r ⌝ }
+    ensures { λ r. ⌜ (Packed verdict-packed (Verified profile (now (key .entry)) (now (digest .entry)) (now (att .entry))) r) × Proved ⌝ }
 {
     answer::pack_verdict(verify(profile, key, digest, att))
 }
