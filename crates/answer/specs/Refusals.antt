@@ -1,5 +1,5 @@
 -- Each refusal's number, named once: 01, "Numbers a caller can meet", and 02.
-use Prim.Native.Nat.{ℕ}
+use Prim.Native.Nat.{ℕ, _≤_}
 
 -- an argument has a size it may not have
 abbrev pub size : ℕ
@@ -64,3 +64,7 @@ more-codes = 16
 -- 02 (vi): an unknown profile
 abbrev pub unknown-profile : ℕ
 unknown-profile = 17
+
+-- m is the number of a refusal: from 1 on, since 0 says that there is none, to the last one named here
+abbrev pub Is-refusal : ℕ → Type 0
+Is-refusal m = (1 ≤ m) × (m ≤ unknown-profile)

@@ -4,14 +4,14 @@ use mathlib.Core.Path.{_≡_, refl, _∙_, subst}
 use mathlib.Core.Bool.{Bool, true, false, cond}
 use mathlib.Core.List.{List, [], _∷_, flatten}
 use mathlib.Core.Option.{Option, none, some}
-use Prim.Native.Nat.{ℕ, zero, suc, _*_, _/_, _%_, _≤_, _<_}
+use Prim.Native.Nat.{ℕ, zero, suc, _+_, _-_, _*_, _/_, _%_, _≤_, _<_}
 use native.Mathlib.Nat.{not-suc-le-zero, mul-pos, mul-mod-left, mul-div-left, div-add-mod'}
 use native.Mathlib.Omega.{arith}
 use borrow.Author.Tests.{ltb-false, eqb-false, lt-ltb, le-ltb, ne-eqb}
 use lib.Dec.{eqb, ltb}
 use lib.ListN.{length, drop, getD, drop-of-length-le}
 use lib.Seq.{drop-cons}
-use Rattle.answer.specs.Refusals.{no-keys, ragged, too-many}
+use Rattle.answer.specs.Refusals.{no-keys, ragged, too-many, Is-refusal}
 use Rattle.octets.specs.Order.{Octets, order, is-less}
 use Rattle.octets.proofs.OrderLaws.{is-less-true}
 use Rattle.attester.specs.Entry.{key, entries}
@@ -68,6 +68,23 @@ module _ (es : List Octets) (e : Octets) (i : ℕ) (h : i < length es) where
   pub misplaced-stop : is-less (order (key e) (key (getD es i []))) ≡ false → misplaced-after e i (drop i es) ≡ some i
   unfolding misplaced-after
   misplaced-stop t = rw (drop-cons es i [] h, t)
+
+-- the index of a misplaced entry is one of the list's
+
+after-below : (e : Octets) (i : ℕ) (es : List Octets) (j : ℕ) → misplaced-after e i es ≡ some j → j < i + length es
+unfolding misplaced-after
+after-below e i [] j h = let z : _≡_ {A = ℕ} 0 1 = cc in absurd (omega arith)
+after-below e i (f ∷ es) j h = go (is-less (order (key e) (key f))) (after-below f (suc i) es j) h
+  where
+    go : (b : Bool) → (misplaced-after f (suc i) es ≡ some j → j < suc i + length es) → cond b (misplaced-after f (suc i) es) (some i) ≡ some j
+        → j < i + suc (length es)
+    go true g k = omega (arith, g k)
+    go false g k = let e : i ≡ j = cc in omega arith
+
+pub misplaced-below : (es : List Octets) (j : ℕ) → misplaced es ≡ some j → j < length es
+unfolding misplaced
+misplaced-below [] j h = let z : _≡_ {A = ℕ} 0 1 = cc in absurd (omega arith)
+misplaced-below (e ∷ es) j h = omega (arith, after-below e 1 es j h)
 
 -- The four refusals, and what is left
 
@@ -146,3 +163,26 @@ listing-admitted w most es positive l =
     let count : length (flatten es) / w ≡ length es = rw n (mul-div-left (length es) positive) in
     admit-sound w most (flatten es) some-octet whole (rw count (l .few))
     ∙ rw (count, entries-flatten w es (l .sized), ascending-misplaced es (l .ascending))
+
+-- a refusal's number, and its place: the index of one of at most `most` entries, or 0
+pub admit-refused : (w most : ℕ) (s : Octets) (m p : ℕ) → admit w most s ≡ refused m p → Is-refusal m × (p ≤ most - 1)
+unfolding admit sound
+admit-refused w most s m p h = go (eqb (length s) 0) (ltb 0 (length s % w)) (ltb most (length s / w)) refl h
+  where
+    all : List Octets
+    all = entries w (length s / w) s
+
+    misplaced-few : (o : Option ℕ) → misplaced all ≡ o → length s / w ≤ most → sound o all ≡ refused m p → Is-refusal m × (p ≤ most - 1)
+    misplaced-few none q few e = let z : _≡_ {A = ℕ} 0 1 = cc in absurd (omega arith)
+    misplaced-few (some i) q few e =
+        let n : 5 ≡ m = cc in
+        let at : i ≡ p = cc in
+        ((omega arith, omega arith), omega (arith, misplaced-below all i q, entries-length w (length s / w) s))
+
+    go : (a b c : Bool) → ltb most (length s / w) ≡ c
+        → cond a (refused no-keys 0) (cond b (refused ragged 0) (cond c (refused too-many 0) (sound (misplaced all) all))) ≡ refused m p
+        → Is-refusal m × (p ≤ most - 1)
+    go true b c r e = let n : 2 ≡ m = cc in let at : 0 ≡ p = cc in ((omega arith, omega arith), omega arith)
+    go false true c r e = let n : 3 ≡ m = cc in let at : 0 ≡ p = cc in ((omega arith, omega arith), omega arith)
+    go false false true r e = let n : 4 ≡ m = cc in let at : 0 ≡ p = cc in ((omega arith, omega arith), omega arith)
+    go false false false r e = misplaced-few (misplaced all) refl (ltb-false most (length s / w) r) e

@@ -28,3 +28,4 @@ pub mod RootLaws
 pub mod WalkLaws
 pub mod Demand3
 pub mod ExtractLaws
+pub mod PlaceLaws

@@ -3,7 +3,7 @@
 use mathlib.Core.Path.{_≡_, refl}
 use mathlib.Core.Bool.{Bool, true, false, cond, _||_, or-true}
 use mathlib.Core.Option.{Option, none, some}
-use Prim.Native.Nat.{ℕ, suc, _<_, Ordering·lt, Ordering·eq, Ordering·gt}
+use Prim.Native.Nat.{ℕ, suc, _≤_, _<_, Ordering·lt, Ordering·eq, Ordering·gt}
 use native.Mathlib.Omega.{arith}
 use Rattle.answer.specs.Refusals.{child-at-foot, key-above, other-digest}
 use Rattle.octets.specs.Order.{Octets, same}
@@ -117,5 +117,17 @@ fault-above x (step e s p) j h =
   where
     go : (o : Option ℕ) (b : Bool) → (o ≡ some j → 0 < j) → lowest o b (suc (height p)) ≡ some j → 0 < j
     go (some i) b g k = g k
+    go none true g k = let e : suc (height p) ≡ j = cc in omega arith
+    go none false g k = let z : _≡_ {A = ℕ} 0 1 = cc in absurd (omega arith)
+
+-- and no level is above the root
+pub fault-height : (x : Octets) (p : Path) (j : ℕ) → fault x p ≡ some j → j ≤ height p
+unfolding fault height
+fault-height x (foot e l r) j h = let z : _≡_ {A = ℕ} 0 1 = cc in absurd (omega arith)
+fault-height x (step e s p) j h =
+    go (fault x p) (same x (key e) || same (key (top p)) (key e)) (fault-height x p j) h
+  where
+    go : (o : Option ℕ) (b : Bool) → (o ≡ some j → j ≤ height p) → lowest o b (suc (height p)) ≡ some j → j ≤ suc (height p)
+    go (some i) b g k = omega (arith, g k)
     go none true g k = let e : suc (height p) ≡ j = cc in omega arith
     go none false g k = let z : _≡_ {A = ℕ} 0 1 = cc in absurd (omega arith)
