@@ -1,4 +1,7 @@
 pub mod OneOutcome
+pub mod Bounds
+pub mod Packed
+pub mod VerdictNumber
 pub mod Profiles
 pub mod Demand1
 pub mod Demand2

@@ -1,9 +1,8 @@
 -- A promise that gives the answer and the buffer by definitions of the inputs is met by those alone.
 use mathlib.Core.Path.{_≡_, refl, ap, _∙_}
 use Prim.Native.Nat.{ℕ}
-use native.Mathlib.Omega.{arith}
 use lib.ListN.{length}
-use Rattle.answer.specs.declared.Answer.the-variants.{Done, Refused}
+use Rattle.answer.specs.declared.Answer.the-variants.{Refused}
 use Rattle.answer.specs.declared.Verdict.the-variants as verdict
 use Rattle.answer.specs.Answer.{written, packed, verdict-packed}
 use Rattle.octets.specs.Order.{Octets}
@@ -20,8 +19,6 @@ use Rattle.attestation.specs.Verify.{Verified, verdict-of}
 use Rattle.attester.specs.Extract.{extract}
 use Rattle.extractor.specs.Extract.{Extracted, extraction-answer, first-record, second-record}
 use Rattle.contradiction.specs.Drill.{Drilled, drilling, drill-answer, first-buffer, second-buffer, drill-packed}
-use Rattle.contradiction.specs.declared.Outcome.the-variants as outcome
-use Rattle.sagebutton.specs.Packed.{Packing, Verdict-packing, Drill-packing}
 use Rattle.sagebutton.specs.OneOutcome.{One-outcome, Numbered, Lends-nothing, Lends-two, Every-input-has-one-outcome}
 
 hash-has-one-outcome : (msg out : Octets) → One-outcome (Hashed msg out)
@@ -122,17 +119,3 @@ every-input-has-one-outcome = record {
       λ text bound out₁ out₂.
       exported drill-packed (Lends-two (Drilled text bound out₁ out₂)) (drill-has-one-outcome text bound out₁ out₂);
 }
-
-pub packing : Packing
-packing (Done n) h = record { low = omega arith; middle = omega arith; high = omega arith }
-packing (Refused m p) h = record { low = omega arith; middle = omega arith; high = omega arith }
-
-pub verdict-packing : Verdict-packing
-verdict-packing verdict.Present h = record { low = omega arith; middle = omega arith; high = omega arith }
-verdict-packing verdict.Absent h = record { low = omega arith; middle = omega arith; high = omega arith }
-verdict-packing (verdict.Refused m p) h = record { low = omega arith; middle = omega arith; high = omega arith }
-
-pub drill-packing : Drill-packing
-drill-packing (outcome.Found n) h = record { low = omega arith; middle = omega arith; high = omega arith }
-drill-packing outcome.None h = record { low = omega arith; middle = omega arith; high = omega arith }
-drill-packing (outcome.Refused m p) h = record { low = omega arith; middle = omega arith; high = omega arith }

@@ -1,4 +1,6 @@
+pub mod Bounds
 pub mod Packed
+pub mod VerdictNumber
 pub mod OneOutcome
 pub mod Profiles
 pub mod Demand1

@@ -1,0 +1,46 @@
+-- How large the answers are, of the promises alone: what an accepted call answers, and a refusal's number and place. Proved in
+-- `proofs/Bounds.antt`.
+use Prim.Native.Nat.{ℕ, _^_, _≤_, _<_}
+use Rattle.answer.specs.declared.Answer.{Answer}
+use Rattle.answer.specs.declared.Answer.the-variants.{Done, Refused}
+use Rattle.answer.specs.declared.Verdict.the-variants as verdict
+use Rattle.answer.specs.Refusals.{Is-refusal}
+use Rattle.octets.specs.Order.{Octets}
+use Rattle.sha256.specs.Hash.{Hashed}
+use Rattle.codes.specs.Read.{Read}
+use Rattle.tree.specs.Digest.{Digested}
+use Rattle.attestation.specs.Attest.{Attested}
+use Rattle.attestation.specs.Verify.{Verified}
+use Rattle.extractor.specs.Extract.{Extracted}
+use Rattle.contradiction.specs.declared.Outcome.the-variants as outcome
+use Rattle.contradiction.specs.Drill.{Drilled}
+
+-- every refusal that a promise permits has a number of 1 to 17, and a place of at most `place`
+pub record Refusals-within {A : Type 0} (place : ℕ) (Refused : ℕ → ℕ → A) (Meets : A → Type 0) : Type 0 where
+  pub numbered : (m p : ℕ) → Meets (Refused m p) → Is-refusal m
+  pub placed : (m p : ℕ) → Meets (Refused m p) → p ≤ place
+
+-- and an accepted call answers at most `value`
+pub record Answers-within (value place : ℕ) (Meets : Answer → Type 0) : Type 0 where
+  pub done : (n : ℕ) → Meets (Done n) → n ≤ value
+  pub refusals : Refusals-within place Refused Meets
+
+pub record Bounds : Type 0 where
+  -- a message's octets
+  pub hash : (msg out out′ : Octets) → Answers-within 65535 0 (λ r. Hashed msg out r out′)
+  -- codes, 3,000 at most, and the line after them
+  pub read-list : (text out out′ : Octets) → Answers-within 3000 3003 (λ r. Read text out r out′)
+  -- keys, and the index of one
+  pub digest : (profile : ℕ) (keys out out′ : Octets) → Answers-within 3000 2999 (λ r. Digested profile keys out r out′)
+  -- 01: "the longest we issue is 586"
+  pub attest : (profile : ℕ) (x keys out out′ : Octets) → Answers-within 586 2999 (λ r. Attested profile x keys out r out′)
+  -- 01: "The longest the verifier takes is 1,731 octets": the first octet that is left over
+  pub verify : (profile : ℕ) (x d a : Octets) → Refusals-within 1731 verdict.Refused (Verified profile x d a)
+  -- levels passed, of 32, and which attestation
+  pub extract : (profile : ℕ) (x d a b out₁ out₂ out₁′ out₂′ : Octets) → Answers-within 31 2 (λ r. Extracted profile x d a b out₁ out₂ r out₁′ out₂′)
+  -- a number below the bound, which has 32 bits
+  pub drill-found : (text : Octets) (bound : ℕ) (out₁ out₂ out₁′ out₂′ : Octets) → bound < 2 ^ 32
+      → (n : ℕ) → Drilled text bound out₁ out₂ (outcome.Found n) out₁′ out₂′ → n < bound
+  -- the text's refusals
+  pub drill : (text : Octets) (bound : ℕ) (out₁ out₂ out₁′ out₂′ : Octets)
+      → Refusals-within 3003 outcome.Refused (λ r. Drilled text bound out₁ out₂ r out₁′ out₂′)
