@@ -1,146 +1,96 @@
--- By `Bounds` a value or place is below 2 ^ 32 and a refusal's number is of 1 to 17, so that the parts of a number do not meet.
-use mathlib.Core.Path.{_≡_}
-use Prim.Native.Nat.{ℕ, _/_, _%_, _^_, _≤_, _<_}
+-- By `Bounds` a value or place is below 2 ^ 32 and a refusal's number is of 1 to 17, so that the parts of a number do not meet, and a
+-- refusal's high bits are not 0.
+use mathlib.Core.Path.{_≡_, refl, _∙_}
+use Prim.Native.Nat.{ℕ, _+_, _*_, _^_, _≤_, _<_}
 use native.Mathlib.Omega.{arith}
-use borrow.Author.Tests.{eq-eqb, ne-eqb}
+use borrow.Author.Tests.{ne-eqb}
 use Rattle.answer.specs.declared.Answer.{Answer}
 use Rattle.answer.specs.declared.Answer.the-variants.{Done, Refused}
 use Rattle.answer.specs.declared.Verdict.{Verdict}
 use Rattle.answer.specs.declared.Verdict.the-variants as verdict
 use Rattle.answer.specs.Refusals.{Is-refusal}
-use Rattle.answer.specs.Answer.{number, value, packed, verdict-number, verdict-value, verdict-packed, present-number, absent-number}
+use Rattle.answer.specs.Answer.{number, value, packed, verdict-number, verdict-value, verdict-packed}
 use Rattle.contradiction.specs.declared.Outcome.{Outcome}
 use Rattle.contradiction.specs.declared.Outcome.the-variants as outcome
 use Rattle.contradiction.specs.Drill.{drill-number, drill-none, drill-value, drill-packed}
 use Rattle.sagebutton.specs.Bounds.{Refusals-within, Answers-within}
-use Rattle.sagebutton.specs.Packed.{Accepted, Verdict-accepted, Drill-accepted, unpacked, unpacked-verdict, unpacked-drill, Tells, Answers-told, Verdicts-told, Outcomes-told, Numbers-tell}
+use Rattle.sagebutton.specs.Packed.{Bits, Accepted, Verdict-accepted, Drill-accepted, unpacked, unpacked-verdict, unpacked-drill, Tells, Answers-told, Verdicts-told, Outcomes-told, Numbers-tell}
 use Rattle.sagebutton.proofs.Bounds.{bounds}
 
--- Reading a number, by its bits
+-- What a number of three parts tells of an answer that was accepted, and of one that was refused
 
-module _ (r : ℕ) where
-  module _ (high : r / 2 ^ 48 ≡ 0) where
-    done-read : (n : ℕ) → r % 2 ^ 32 ≡ n → Done n ≡ unpacked r
-    unfolding unpacked
-    done-read n low = rw (high, low)
+module _ {A : Type 0} (num none val : A → ℕ) (Acc : A → Type 0) (unpack : ℕ → A) (r : ℕ) (a : A)
+    (is : r ≡ num a * 2 ^ 48 + none a * 2 ^ 32 + val a) (few : none a ≤ 1) (small : val a < 2 ^ 32)
+    (read : Bits r (num a) (none a) (val a) → a ≡ unpack r) where
+  parts : num a ≤ 17 → Bits r (num a) (none a) (val a)
+  parts h = record { low = omega arith; middle = omega arith; high = omega arith }
 
-    present-read : r % 2 ^ 32 ≡ present-number → verdict.Present ≡ unpacked-verdict r
-    unfolding unpacked-verdict
-    present-read low = rw (high, low)
+  accepted-tells : num a ≡ 0 → Acc a → Tells num none val Acc unpack r a
+  accepted-tells e t =
+      let b = parts (omega arith) in
+      record { fits = omega arith; bits = b; zero-if-accepted = λ u. b .high ∙ e; accepted-if-zero = λ z. t; exactly = read b }
 
-    absent-read : r % 2 ^ 32 ≡ absent-number → verdict.Absent ≡ unpacked-verdict r
-    unfolding unpacked-verdict
-    absent-read low = rw (high, low)
+  refused-tells : Is-refusal (num a) → (Acc a → ⊥) → Tells num none val Acc unpack r a
+  refused-tells i n =
+      let b = parts (i .1) in
+      record {
+        fits = omega arith;
+        bits = b;
+        zero-if-accepted = λ u. absurd (n u);
+        accepted-if-zero = λ z. absurd (omega (arith, b .high));
+        exactly = read b;
+      }
 
-    found-read : (n : ℕ) → r / 2 ^ 32 % 2 ^ 16 ≡ 0 → r % 2 ^ 32 ≡ n → outcome.Found n ≡ unpacked-drill r
-    unfolding unpacked-drill
-    found-read n middle low = rw (high, middle, low)
+-- Each case of the three types of answers
 
-    none-read : r / 2 ^ 32 % 2 ^ 16 ≡ 1 → outcome.None ≡ unpacked-drill r
-    unfolding unpacked-drill
-    none-read middle = rw (high, middle)
+module _ (v q : ℕ) {Meets : Answer → Type 0} (w : Answers-within v q Meets) (hv : v < 2 ^ 32) (hq : q < 2 ^ 32) where
+  answer-tells : Answers-told Meets
+  unfolding unpacked
+  answer-tells r k = go (k .told) (k .meets) (k .is)
+    where
+      go : (a : Answer) → Meets a → r ≡ packed a → Tells number (λ b. 0) value Accepted unpacked r a
+      go (Done n) h e =
+          accepted-tells number (λ b. 0) value Accepted unpacked r (Done n) (omega arith) (omega arith) (omega (arith, w .done n h))
+          (λ b. rw (b .high, b .low)) refl tt
+      go (Refused m p) h e =
+          let i = w .refusals .numbered m p h in
+          refused-tells number (λ b. 0) value Accepted unpacked r (Refused m p) (omega arith) (omega arith) (omega (arith, w .refusals .placed m p h))
+          (λ b. rw (b .high, b .low, ne-eqb m 0 (λ z. omega arith))) i (λ t. t)
 
-  module _ (m p : ℕ) (i : Is-refusal m) (high : r / 2 ^ 48 ≡ m) (low : r % 2 ^ 32 ≡ p) where
-    refused-read : Refused m p ≡ unpacked r
-    unfolding unpacked
-    refused-read = rw (high, low, ne-eqb m 0 (λ e. omega arith))
+module _ (q : ℕ) {Meets : Verdict → Type 0} (w : Refusals-within q verdict.Refused Meets) (hq : q < 2 ^ 32) where
+  verdict-tells : Verdicts-told Meets
+  unfolding unpacked-verdict
+  verdict-tells r k = go (k .told) (k .meets) (k .is)
+    where
+      go : (u : Verdict) → Meets u → r ≡ verdict-packed u → Tells verdict-number (λ u. 0) verdict-value Verdict-accepted unpacked-verdict r u
+      go verdict.Present h e =
+          accepted-tells verdict-number (λ u. 0) verdict-value Verdict-accepted unpacked-verdict r verdict.Present (omega arith) (omega arith) (omega arith)
+          (λ b. rw (b .high, b .low)) refl tt
+      go verdict.Absent h e =
+          accepted-tells verdict-number (λ u. 0) verdict-value Verdict-accepted unpacked-verdict r verdict.Absent (omega arith) (omega arith) (omega arith)
+          (λ b. rw (b .high, b .low)) refl tt
+      go (verdict.Refused m p) h e =
+          let i = w .numbered m p h in
+          refused-tells verdict-number (λ u. 0) verdict-value Verdict-accepted unpacked-verdict r (verdict.Refused m p) (omega arith) (omega arith)
+          (omega (arith, w .placed m p h)) (λ b. rw (b .high, b .low, ne-eqb m 0 (λ z. omega arith))) i (λ t. t)
 
-    verdict-refused-read : verdict.Refused m p ≡ unpacked-verdict r
-    unfolding unpacked-verdict
-    verdict-refused-read = rw (high, low, ne-eqb m 0 (λ e. omega arith))
-
-    drill-refused-read : outcome.Refused m p ≡ unpacked-drill r
-    unfolding unpacked-drill
-    drill-refused-read = rw (high, low, ne-eqb m 0 (λ e. omega arith))
-
--- An answer within its bounds
-
-answer-tells : (value-most place-most : ℕ) {Meets : Answer → Type 0} → Answers-within value-most place-most Meets
-    → value-most < 2 ^ 32 → place-most < 2 ^ 32 → Answers-told Meets
-answer-tells v q {Meets} w hv hq r k = rw (k .is) (go (k .told) (k .meets))
-  where
-    go : (a : Answer) → Meets a → Tells number (λ b. 0) value Accepted unpacked (packed a) a
-    go (Done n) h =
-        let few : n ≤ v = w .done n h in
-        record {
-          fits = omega arith;
-          bits = record { low = omega arith; middle = omega arith; high = omega arith };
-          zero-if-accepted = λ t. omega arith;
-          accepted-if-zero = λ e. tt;
-          exactly = done-read (packed (Done n)) (omega arith) n (omega arith);
-        }
-    go (Refused m p) h =
-        let i = w .refusals .numbered m p h in
-        let few : p ≤ q = w .refusals .placed m p h in
-        record {
-          fits = omega arith;
-          bits = record { low = omega arith; middle = omega arith; high = omega arith };
-          zero-if-accepted = λ t. absurd t;
-          accepted-if-zero = λ e. omega arith;
-          exactly = refused-read (packed (Refused m p)) m p i (omega arith) (omega arith);
-        }
-
-verdict-tells : (place-most : ℕ) {Meets : Verdict → Type 0} → Refusals-within place-most verdict.Refused Meets → place-most < 2 ^ 32
-    → Verdicts-told Meets
-verdict-tells q {Meets} w hq r k = rw (k .is) (go (k .told) (k .meets))
-  where
-    go : (v : Verdict) → Meets v → Tells verdict-number (λ u. 0) verdict-value Verdict-accepted unpacked-verdict (verdict-packed v) v
-    go verdict.Present h = record {
-      fits = omega arith;
-      bits = record { low = omega arith; middle = omega arith; high = omega arith };
-      zero-if-accepted = λ t. omega arith;
-      accepted-if-zero = λ e. tt;
-      exactly = present-read (verdict-packed verdict.Present) (omega arith) (omega arith);
-    }
-    go verdict.Absent h = record {
-      fits = omega arith;
-      bits = record { low = omega arith; middle = omega arith; high = omega arith };
-      zero-if-accepted = λ t. omega arith;
-      accepted-if-zero = λ e. tt;
-      exactly = absent-read (verdict-packed verdict.Absent) (omega arith) (omega arith);
-    }
-    go (verdict.Refused m p) h =
-        let i = w .numbered m p h in
-        let few : p ≤ q = w .placed m p h in
-        record {
-          fits = omega arith;
-          bits = record { low = omega arith; middle = omega arith; high = omega arith };
-          zero-if-accepted = λ t. absurd t;
-          accepted-if-zero = λ e. omega arith;
-          exactly = verdict-refused-read (verdict-packed (verdict.Refused m p)) m p i (omega arith) (omega arith);
-        }
-
-outcome-tells : (bound place-most : ℕ) {Meets : Outcome → Type 0} → ((n : ℕ) → Meets (outcome.Found n) → n < bound)
-    → Refusals-within place-most outcome.Refused Meets → bound < 2 ^ 32 → place-most < 2 ^ 32 → Outcomes-told Meets
-outcome-tells bound q {Meets} found w hb hq r k = rw (k .is) (go (k .told) (k .meets))
-  where
-    go : (o : Outcome) → Meets o → Tells drill-number drill-none drill-value Drill-accepted unpacked-drill (drill-packed o) o
-    go (outcome.Found n) h =
-        let few : n < bound = found n h in
-        record {
-          fits = omega arith;
-          bits = record { low = omega arith; middle = omega arith; high = omega arith };
-          zero-if-accepted = λ t. omega arith;
-          accepted-if-zero = λ e. tt;
-          exactly = found-read (drill-packed (outcome.Found n)) (omega arith) n (omega arith) (omega arith);
-        }
-    go outcome.None h = record {
-      fits = omega arith;
-      bits = record { low = omega arith; middle = omega arith; high = omega arith };
-      zero-if-accepted = λ t. omega arith;
-      accepted-if-zero = λ e. tt;
-      exactly = none-read (drill-packed outcome.None) (omega arith) (omega arith);
-    }
-    go (outcome.Refused m p) h =
-        let i = w .numbered m p h in
-        let few : p ≤ q = w .placed m p h in
-        record {
-          fits = omega arith;
-          bits = record { low = omega arith; middle = omega arith; high = omega arith };
-          zero-if-accepted = λ t. absurd t;
-          accepted-if-zero = λ e. omega arith;
-          exactly = drill-refused-read (drill-packed (outcome.Refused m p)) m p i (omega arith) (omega arith);
-        }
+module _ (n q : ℕ) {Meets : Outcome → Type 0} (found : (i : ℕ) → Meets (outcome.Found i) → i < n) (w : Refusals-within q outcome.Refused Meets)
+    (hn : n < 2 ^ 32) (hq : q < 2 ^ 32) where
+  outcome-tells : Outcomes-told Meets
+  unfolding unpacked-drill
+  outcome-tells r k = go (k .told) (k .meets) (k .is)
+    where
+      go : (o : Outcome) → Meets o → r ≡ drill-packed o → Tells drill-number drill-none drill-value Drill-accepted unpacked-drill r o
+      go (outcome.Found i) h e =
+          accepted-tells drill-number drill-none drill-value Drill-accepted unpacked-drill r (outcome.Found i) e (omega arith) (omega (arith, found i h))
+          (λ b. rw (b .high, b .middle, b .low)) refl tt
+      go outcome.None h e =
+          accepted-tells drill-number drill-none drill-value Drill-accepted unpacked-drill r outcome.None e (omega arith) (omega arith)
+          (λ b. rw (b .high, b .middle)) refl tt
+      go (outcome.Refused m p) h e =
+          let i = w .numbered m p h in
+          refused-tells drill-number drill-none drill-value Drill-accepted unpacked-drill r (outcome.Refused m p) e (omega arith)
+          (omega (arith, w .placed m p h)) (λ b. rw (b .high, b .low, ne-eqb m 0 (λ z. omega arith))) i (λ t. t)
 
 pub numbers-tell : Numbers-tell
 numbers-tell = record {
