@@ -32,7 +32,7 @@ verdict-number verdict.Present = 0
 verdict-number verdict.Absent = 0
 verdict-number (verdict.Refused m p) = m
 
--- the numbers of the two verdicts: above every place that a refusal can have
+-- the numbers of the two verdicts: above every place that a refused one can have, 1,731 at most
 abbrev pub present-number : ℕ
 present-number = 65537
 

@@ -1,5 +1,5 @@
--- What `admit` answers, case by case; that what it admits is an accepted list whose octets are all of the octets; and that
--- the octets of every accepted list are admitted and give it back.
+-- What `admit` answers, case by case; that what it admits is an accepted list whose octets are all of the octets; that
+-- the octets of every accepted list are admitted and give it back; and how large a refusal's place can be.
 use mathlib.Core.Path.{_≡_, refl, _∙_, subst}
 use mathlib.Core.Bool.{Bool, true, false, cond}
 use mathlib.Core.List.{List, [], _∷_, flatten}
@@ -16,7 +16,7 @@ use Rattle.octets.specs.Order.{Octets, order, is-less}
 use Rattle.octets.proofs.OrderLaws.{is-less-true}
 use Rattle.attester.specs.Entry.{key, entries}
 use Rattle.attester.specs.Listing.{Ascending, Listing}
-use Rattle.attester.specs.Admission.{admitted, refused, misplaced-after, misplaced, sound, admit}
+use Rattle.attester.specs.Admission.{Admission, admitted, refused, misplaced-after, misplaced, sound, admit}
 use Rattle.attester.proofs.EntryLaws.{entries-length, entries-sized, entries-whole, entries-flatten, flatten-length}
 use Rattle.attester.proofs.ListingLaws.{ascending-cons}
 
@@ -69,7 +69,7 @@ module _ (es : List Octets) (e : Octets) (i : ℕ) (h : i < length es) where
   unfolding misplaced-after
   misplaced-stop t = rw (drop-cons es i [] h, t)
 
--- the index of a misplaced entry is one of the list's
+-- The index of a misplaced entry is one of the list's
 
 after-below : (e : Octets) (i : ℕ) (es : List Octets) (j : ℕ) → misplaced-after e i es ≡ some j → j < i + length es
 unfolding misplaced-after
@@ -164,25 +164,27 @@ listing-admitted w most es positive l =
     admit-sound w most (flatten es) some-octet whole (rw count (l .few))
     ∙ rw (count, entries-flatten w es (l .sized), ascending-misplaced es (l .ascending))
 
--- a refusal's number, and its place: the index of one of at most `most` entries, or 0
-pub admit-refused : (w most : ℕ) (s : Octets) (m p : ℕ) → admit w most s ≡ refused m p → Is-refusal m × (p ≤ most - 1)
+-- a list that is admitted, or a refusal with its number and the index of one of at most `most` entries, or 0
+abbrev Admitted-within : ℕ → Admission → Type 0
+Admitted-within most (admitted es) = Unit {0}
+Admitted-within most (refused m p) = Is-refusal m × (p ≤ most - 1)
+
+admit-within : (w most : ℕ) (s : Octets) → Admitted-within most (admit w most s)
 unfolding admit sound
-admit-refused w most s m p h = go (eqb (length s) 0) (ltb 0 (length s % w)) (ltb most (length s / w)) refl h
+admit-within w most s = go (eqb (length s) 0) (ltb 0 (length s % w)) (ltb most (length s / w)) (misplaced all) refl refl
   where
     all : List Octets
     all = entries w (length s / w) s
 
-    misplaced-few : (o : Option ℕ) → misplaced all ≡ o → length s / w ≤ most → sound o all ≡ refused m p → Is-refusal m × (p ≤ most - 1)
-    misplaced-few none q few e = let z : _≡_ {A = ℕ} 0 1 = cc in absurd (omega arith)
-    misplaced-few (some i) q few e =
-        let n : 5 ≡ m = cc in
-        let at : i ≡ p = cc in
-        ((omega arith, omega arith), omega (arith, misplaced-below all i q, entries-length w (length s / w) s))
+    go : (a b c : Bool) (o : Option ℕ) → ltb most (length s / w) ≡ c → misplaced all ≡ o
+        → Admitted-within most (cond a (refused no-keys 0) (cond b (refused ragged 0) (cond c (refused too-many 0) (sound o all))))
+    go true b c o e f = ((omega arith, omega arith), omega arith)
+    go false true c o e f = ((omega arith, omega arith), omega arith)
+    go false false true o e f = ((omega arith, omega arith), omega arith)
+    go false false false none e f = tt
+    go false false false (some i) e f =
+        let few = ltb-false most (length s / w) e in
+        ((omega arith, omega arith), omega (arith, misplaced-below all i f, entries-length w (length s / w) s))
 
-    go : (a b c : Bool) → ltb most (length s / w) ≡ c
-        → cond a (refused no-keys 0) (cond b (refused ragged 0) (cond c (refused too-many 0) (sound (misplaced all) all))) ≡ refused m p
-        → Is-refusal m × (p ≤ most - 1)
-    go true b c r e = let n : 2 ≡ m = cc in let at : 0 ≡ p = cc in ((omega arith, omega arith), omega arith)
-    go false true c r e = let n : 3 ≡ m = cc in let at : 0 ≡ p = cc in ((omega arith, omega arith), omega arith)
-    go false false true r e = let n : 4 ≡ m = cc in let at : 0 ≡ p = cc in ((omega arith, omega arith), omega arith)
-    go false false false r e = misplaced-few (misplaced all) refl (ltb-false most (length s / w) r) e
+pub admit-refused : (w most : ℕ) (s : Octets) (m p : ℕ) → admit w most s ≡ refused m p → Is-refusal m × (p ≤ most - 1)
+admit-refused w most s m p e = rw e at (admit-within w most s)

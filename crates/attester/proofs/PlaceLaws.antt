@@ -1,5 +1,6 @@
--- How far a refusal's place can lie. A reader goes no further than its sections can reach: where it stops, the octets ended before
--- that, or the octet that can't stand there is at most so far on. Steps 3 to 6 name a level of the path, which has at most 32.
+-- How far a refusal's place can lie, and how many levels an extractor can pass. A reader goes no further than its sections can reach:
+-- where it stops, the octets ended before that, or the octet that can't stand there is at most so far on. Steps 3 to 6 name a level of
+-- the path, which has at most 32.
 use mathlib.Core.Path.{_≡_, refl}
 use mathlib.Core.Bool.{Bool, true, false, cond, _&&_}
 use mathlib.Core.List.{[], _∷_}
@@ -10,14 +11,13 @@ use native.Mathlib.Omega.{arith}
 use borrow.Author.Tests.{leb-false, eqb-true}
 use lib.Dec.{leb, eqb}
 use lib.ListN.{length, take, drop, length-drop}
-use Rattle.answer.specs.Refusals as refusal
-use Rattle.answer.specs.Refusals.{Is-refusal}
+use Rattle.answer.specs.Refusals.{size, child-at-foot, other-digest, Is-refusal}
 use Rattle.octets.specs.Order.{Octets, same}
 use Rattle.attester.specs.Entry.{key}
 use Rattle.attester.specs.Path.{Path, foot-entry, height}
 use Rattle.attester.specs.Reader.{short, wrong, Read, got, stopped, Reader, after, give, octet, block, many, close}
 use Rattle.attester.specs.Form.{announced, optional, path-of, is-count, sections, Form, formed, ended, spoilt, placed, form, path-read, shown}
-use Rattle.attester.specs.Verdict.{Judgement, present, absent, refused, Accepted, hidden, fault, unless-fault, root-record, judge}
+use Rattle.attester.specs.Verdict.{Judgement, present, absent, refused, hidden, fault, unless-fault, root-record, judge}
 use Rattle.attester.specs.Verify.{judged, verify}
 use Rattle.attester.specs.Walk.{Found, walk}
 use Rattle.attester.specs.Extract.{Extraction, extracted, shows, contradiction, sized, extract}
@@ -25,7 +25,7 @@ use Rattle.attester.specs.Extract as extractor
 use Rattle.attester.proofs.ReaderLaws.{octet-only}
 use Rattle.attester.proofs.FormLaws.{is-count-true, form-rendered}
 use Rattle.attester.proofs.VerdictLaws.{fault-height}
-use Rattle.attester.proofs.WalkLaws.{walk-level}
+use Rattle.attester.proofs.WalkLaws.{walk-passed}
 
 -- Readers
 
@@ -134,87 +134,79 @@ shown-low w a = go (form w a) refl
 
 -- The verdict
 
-judge-refused : (H : Octets → Octets) (x d : Octets) (p : Path) (m j : ℕ) → judge H x d p ≡ refused m j → Is-refusal m × (j ≤ height p)
+-- a judgement that is no refusal, or one with its number and a place of at most `place`
+abbrev Judged-within : ℕ → Judgement → Type 0
+Judged-within place present = Unit {0}
+Judged-within place absent = Unit {0}
+Judged-within place (refused m j) = Is-refusal m × (j ≤ place)
+
+judged-further : (place further : ℕ) (v : Judgement) → place ≤ further → Judged-within place v → Judged-within further v
+judged-further place further present h k = tt
+judged-further place further absent h k = tt
+judged-further place further (refused m j) h k = (k .0, omega (arith, k .1))
+
+-- steps 3 to 6 name a level of the path, or none
+judge-within : (H : Octets → Octets) (x d : Octets) (p : Path) → Judged-within (height p) (judge H x d p)
 unfolding judge
-judge-refused H x d p m j h = go (hidden x p) (fault x p) (same (H (root-record H x p)) d) (same x (key (foot-entry p))) refl h
+judge-within H x d p = go (hidden x p) (fault x p) (same (H (root-record H x p)) d) (same x (key (foot-entry p))) refl
   where
     go : (o : Bool) (f : Option ℕ) (s k : Bool) → fault x p ≡ f
-        → cond o (refused refusal.child-at-foot 0) (unless-fault f (cond s (cond k present absent) (refused refusal.other-digest 0))) ≡ refused m j
-        → Is-refusal m × (j ≤ height p)
-    go true f s k u e = let n : 8 ≡ m = cc in let at : 0 ≡ j = cc in ((omega arith, omega arith), omega arith)
-    go false (some i) s k u e = let n : 9 ≡ m = cc in let at : i ≡ j = cc in ((omega arith, omega arith), omega (arith, fault-height x p i u))
-    go false none false k u e = let n : 10 ≡ m = cc in let at : 0 ≡ j = cc in ((omega arith, omega arith), omega arith)
-    go false none true true u e = let z : _≡_ {A = ℕ} 0 1 = cc in absurd (omega arith)
-    go false none true false u e = let z : _≡_ {A = ℕ} 0 1 = cc in absurd (omega arith)
+        → Judged-within (height p) (cond o (refused child-at-foot 0) (unless-fault f (cond s (cond k present absent) (refused other-digest 0))))
+    go true f s k e = ((omega arith, omega arith), omega arith)
+    go false (some j) s k e = ((omega arith, omega arith), fault-height x p j e)
+    go false none false k e = ((omega arith, omega arith), omega arith)
+    go false none true true e = tt
+    go false none true false e = tt
 
--- a refusal's number, and its place: an octet of the longest, or the one after it
-pub verify-refused : (H : Octets → Octets) (w : ℕ) (x d a : Octets) (m j : ℕ) → verify H w x d a ≡ refused m j
-    → Is-refusal m × (j ≤ 1091 + 32 * w)
-unfolding verify judged
-verify-refused H w x d a m j h = go (eqb (length x) 20 && eqb (length d) 32) (form w a) refl h
-  where
-    go : (o : Bool) (f : Form) → form w a ≡ f → cond o (judged (judge H x d) f) (refused refusal.size 0) ≡ refused m j
-        → Is-refusal m × (j ≤ 1091 + 32 * w)
-    go false f u e = let n : 1 ≡ m = cc in let at : 0 ≡ j = cc in ((omega arith, omega arith), omega arith)
-    go true (ended i) u e =
-        let n : 7 ≡ m = cc in let at : i ≡ j = cc in ((omega arith, omega arith), omega (arith, form-ended w a i u))
-    go true (spoilt i) u e =
-        let n : 7 ≡ m = cc in let at : i ≡ j = cc in ((omega arith, omega arith), omega (arith, form-spoilt w a i u))
-    go true (formed p) u e = let g = judge-refused H x d p m j e in (g .0, omega (arith, g .1, form-rendered w a p u .low))
-
--- The extractor
-
-module _ (H : Octets → Octets) (w : ℕ) (x d a b : Octets) where
-  -- it passes levels of the first path
-  pub extract-level : (n m : ℕ) (f : Found) → extract H w x d a b n m ≡ extracted f → f .passed ≤ 31
-  unfolding extract contradiction
-  extract-level n m f h =
-      go (sized w (length x) (length d) n m) (verify H w x d a) (verify H w x d b) (walk H x (shown w a) (shown w b)) refl h
+module _ (H : Octets → Octets) (w : ℕ) (x d : Octets) where
+  verify-within : (a : Octets) → Judged-within (1091 + 32 * w) (verify H w x d a)
+  unfolding verify judged
+  verify-within a = go (eqb (length x) 20 && eqb (length d) 32) (form w a) refl
     where
-      found : (o : Option Found) → walk H x (shown w a) (shown w b) ≡ o → shows o ≡ extracted f → f .passed ≤ 31
-      found none u e = let z : _≡_ {A = ℕ} 0 1 = cc in absurd (omega arith)
-      found (some g) u e =
-          let is : walk H x (shown w a) (shown w b) ≡ some f = cc in
-          omega (arith, walk-level H x (shown w a) (shown w b) f is, shown-low w a)
+      go : (o : Bool) (f : Form) → form w a ≡ f → Judged-within (1091 + 32 * w) (cond o (judged (judge H x d) f) (refused size 0))
+      go false f e = ((omega arith, omega arith), omega arith)
+      go true (ended n) e = ((omega arith, omega arith), omega (arith, form-ended w a n e))
+      go true (spoilt n) e = ((omega arith, omega arith), form-spoilt w a n e)
+      go true (formed p) e =
+          judged-further (height p) (1091 + 32 * w) (judge H x d p) (omega (arith, form-rendered w a p e .low)) (judge-within H x d p)
 
-      go : (o : Bool) (u v : Judgement) (g : Option Found) → walk H x (shown w a) (shown w b) ≡ g
-          → cond o (contradiction u v g) (extractor.refused refusal.size 0) ≡ extracted f → f .passed ≤ 31
-      go false u v g k e = let z : _≡_ {A = ℕ} 0 1 = cc in absurd (omega arith)
-      go true (refused i q) v g k e = let z : _≡_ {A = ℕ} 0 1 = cc in absurd (omega arith)
-      go true present (refused i q) g k e = let z : _≡_ {A = ℕ} 0 1 = cc in absurd (omega arith)
-      go true absent (refused i q) g k e = let z : _≡_ {A = ℕ} 0 1 = cc in absurd (omega arith)
-      go true present present g k e = let z : _≡_ {A = ℕ} 0 1 = cc in absurd (omega arith)
-      go true absent absent g k e = let z : _≡_ {A = ℕ} 0 1 = cc in absurd (omega arith)
-      go true present absent g k e = found g k e
-      go true absent present g k e = found g k e
+  -- a refusal's number, and its place: an octet of the longest, or the one after it
+  pub verify-refused : (a : Octets) (m j : ℕ) → verify H w x d a ≡ refused m j → Is-refusal m × (j ≤ 1091 + 32 * w)
+  verify-refused a m j e = rw e at (verify-within a)
 
-  -- a refusal's number, and which attestation it is about, or 0
-  pub extract-refused : (n m i j : ℕ) → extract H w x d a b n m ≡ extractor.refused i j → Is-refusal i × (j ≤ 2)
-  unfolding extract contradiction
-  extract-refused n m i j h =
-      go (sized w (length x) (length d) n m) (verify H w x d a) (verify H w x d b) (walk H x (shown w a) (shown w b)) refl refl h
-    where
-      same-verdict : 11 ≡ i → 0 ≡ j → Is-refusal i × (j ≤ 2)
-      same-verdict k l = ((omega arith, omega arith), omega arith)
+  -- The extractor
 
-      found : (o : Option Found) → shows o ≡ extractor.refused i j → Is-refusal i × (j ≤ 2)
-      found none e = same-verdict (cc) (cc)
-      found (some g) e = let z : _≡_ {A = ℕ} 0 1 = cc in absurd (omega arith)
+  -- levels passed, of 32; or a refusal's number, and which attestation it is of
+  abbrev Extracted-within : Extraction → Type 0
+  Extracted-within (extracted f) = f .passed ≤ 31
+  Extracted-within (extractor.refused m j) = Is-refusal m × (j ≤ 2)
 
-      of-second : (k q : ℕ) → verify H w x d b ≡ refused k q → k ≡ i → 2 ≡ j → Is-refusal i × (j ≤ 2)
-      of-second k q v r s = let g = verify-refused H w x d b k q v .0 in ((omega arith, omega arith), omega arith)
+  module _ (a b : Octets) where
+    walk-within : Extracted-within (shows (walk H x (shown w a) (shown w b)))
+    walk-within = go (walk H x (shown w a) (shown w b)) refl
+      where
+        go : (o : Option Found) → walk H x (shown w a) (shown w b) ≡ o → Extracted-within (shows o)
+        go none e = ((omega arith, omega arith), omega arith)
+        go (some f) e = omega (arith, walk-passed H x (shown w a) (shown w b) f e, shown-low w a)
 
-      go : (o : Bool) (u v : Judgement) (g : Option Found) → verify H w x d a ≡ u → verify H w x d b ≡ v
-          → cond o (contradiction u v g) (extractor.refused refusal.size 0) ≡ extractor.refused i j → Is-refusal i × (j ≤ 2)
-      go false u v g s t e = let k : 1 ≡ i = cc in let at : 0 ≡ j = cc in ((omega arith, omega arith), omega arith)
-      go true (refused k q) v g s t e =
-          let r = verify-refused H w x d a k q s .0 in
-          let is : k ≡ i = cc in
-          let at : 1 ≡ j = cc in
-          ((omega arith, omega arith), omega arith)
-      go true present (refused k q) g s t e = of-second k q t (cc) (cc)
-      go true absent (refused k q) g s t e = of-second k q t (cc) (cc)
-      go true present present g s t e = same-verdict (cc) (cc)
-      go true absent absent g s t e = same-verdict (cc) (cc)
-      go true present absent g s t e = found g e
-      go true absent present g s t e = found g e
+    extract-within : (n m : ℕ) → Extracted-within (extract H w x d a b n m)
+    unfolding extract contradiction
+    extract-within n m =
+        go (sized w (length x) (length d) n m) (verify H w x d a) (verify H w x d b) (verify-within a) (verify-within b)
+      where
+        go : (o : Bool) (u v : Judgement) → Judged-within (1091 + 32 * w) u → Judged-within (1091 + 32 * w) v
+            → Extracted-within (cond o (contradiction u v (walk H x (shown w a) (shown w b))) (extractor.refused size 0))
+        go false u v g h = ((omega arith, omega arith), omega arith)
+        go true (refused m j) v g h = (g .0, omega arith)
+        go true present (refused m j) g h = (h .0, omega arith)
+        go true absent (refused m j) g h = (h .0, omega arith)
+        go true present present g h = ((omega arith, omega arith), omega arith)
+        go true absent absent g h = ((omega arith, omega arith), omega arith)
+        go true present absent g h = walk-within
+        go true absent present g h = walk-within
+
+    pub extract-passed : (n m : ℕ) (f : Found) → extract H w x d a b n m ≡ extracted f → f .passed ≤ 31
+    extract-passed n m f e = rw e at (extract-within n m)
+
+    pub extract-refused : (n m i j : ℕ) → extract H w x d a b n m ≡ extractor.refused i j → Is-refusal i × (j ≤ 2)
+    extract-refused n m i j e = rw e at (extract-within n m)

@@ -1,5 +1,6 @@
 -- The walk: wherever two paths differ that pass steps 3 and 4 and have the same label at the root, it finds two different
--- records with the same label, since as long as the records agree, so do the labels below. And the walk as a loop.
+-- records with the same label, since as long as the records agree, so do the labels below. It passes no more levels than the first
+-- path has. And the walk as a loop.
 use mathlib.Core.Path.{_≡_, refl, sym, ap, _∙_}
 use mathlib.Core.Bool.{Bool, true, false, cond}
 use mathlib.Core.Option.{Option, none, some}
@@ -89,37 +90,38 @@ module _ (H : Octets → Octets) (H-length : (m : Octets) → length (H m) ≡ 3
 
 -- No level is found below the first path's foot
 
-module _ (H : Octets → Octets) (x : Octets) where
-  -- at this level, or below, where what is found is in reach
-  level-or : (r s : Octets) (below : Option Found) (n : ℕ) → ((g : Found) → below ≡ some g → g .passed ≤ n)
-      → (f : Found) → here-or-below r s below ≡ some f → f .passed ≤ n
-  level-or r s below n h f e = go (same r s) e
-    where
-      go : (b : Bool) → cond b below (some record { passed = 0; first = r; second = s }) ≡ some f → f .passed ≤ n
-      go true k = h f k
-      go false k =
-          let here : record { passed = 0; first = r; second = s } ≡ f = cc in
-          let z : 0 ≡ f .passed = ap (λ (g : Found). g .passed) here in
-          omega arith
+-- at this level, or below, where no more than n are passed
+passed-here-or-below : (r s : Octets) (below : Option Found) (n : ℕ) → ((g : Found) → below ≡ some g → g .passed ≤ n)
+    → (f : Found) → here-or-below r s below ≡ some f → f .passed ≤ n
+passed-here-or-below r s below n h f e = go (same r s) e
+  where
+    go : (b : Bool) → cond b below (some record { passed = 0; first = r; second = s }) ≡ some f → f .passed ≤ n
+    go true k = h f k
+    go false k =
+        let here : record { passed = 0; first = r; second = s } ≡ f = cc in
+        let z : 0 ≡ f .passed = ap (λ (g : Found). g .passed) here in
+        omega arith
 
-  level-deeper : (below : Option Found) (n : ℕ) → ((g : Found) → below ≡ some g → g .passed ≤ n)
-      → (f : Found) → deeper below ≡ some f → f .passed ≤ suc n
-  level-deeper none n h f e = let z : _≡_ {A = ℕ} 0 1 = cc in absurd (omega arith)
-  level-deeper (some g) n h f e =
-      let here : record { passed = suc (g .passed); first = g .first; second = g .second } ≡ f = cc in
-      let z : suc (g .passed) ≡ f .passed = ap (λ (k : Found). k .passed) here in
-      omega (arith, h g refl)
+passed-deeper : (below : Option Found) (n : ℕ) → ((g : Found) → below ≡ some g → g .passed ≤ n)
+    → (f : Found) → deeper below ≡ some f → f .passed ≤ suc n
+passed-deeper none n h f e = let z : _≡_ {A = ℕ} 0 1 = cc in absurd (omega arith)
+passed-deeper (some g) n h f e =
+    let one-more : record { passed = suc (g .passed); first = g .first; second = g .second } ≡ f = cc in
+    let z : suc (g .passed) ≡ f .passed = ap (λ (k : Found). k .passed) one-more in
+    omega (arith, h g refl)
 
-  pub walk-level : (p q : Path) (f : Found) → walk H x p q ≡ some f → f .passed ≤ height p
-  unfolding walk height
-  walk-level (foot e l r) q f h =
-      level-or (root-record H x (foot e l r)) (root-record H x q) none 0 (λ g k. let z : _≡_ {A = ℕ} 0 1 = cc in absurd (omega arith)) f h
-  walk-level (step e s p) (foot g l r) f h =
-      level-or (root-record H x (step e s p)) (root-record H x (foot g l r)) none (suc (height p))
-      (λ g k. let z : _≡_ {A = ℕ} 0 1 = cc in absurd (omega arith)) f h
-  walk-level (step e s p) (step g t q) f h =
-      level-or (root-record H x (step e s p)) (root-record H x (step g t q)) (deeper (walk H x p q)) (suc (height p))
-      (level-deeper (walk H x p q) (height p) (walk-level p q)) f h
+passed-none : (n : ℕ) (g : Found) → none ≡ some g → g .passed ≤ n
+passed-none n g e = let z : _≡_ {A = ℕ} 0 1 = cc in absurd (omega arith)
+
+pub walk-passed : (H : Octets → Octets) (x : Octets) (p q : Path) (f : Found) → walk H x p q ≡ some f → f .passed ≤ height p
+unfolding walk height
+walk-passed H x (foot e l r) q f h =
+    passed-here-or-below (root-record H x (foot e l r)) (root-record H x q) none 0 (passed-none 0) f h
+walk-passed H x (step e s p) (foot g l r) f h =
+    passed-here-or-below (root-record H x (step e s p)) (root-record H x (foot g l r)) none (suc (height p)) (passed-none (suc (height p))) f h
+walk-passed H x (step e s p) (step g t q) f h =
+    passed-here-or-below (root-record H x (step e s p)) (root-record H x (step g t q)) (deeper (walk H x p q)) (suc (height p))
+    (passed-deeper (walk H x p q) (height p) (walk-passed H x p q)) f h
 
 -- The walk as a loop
 

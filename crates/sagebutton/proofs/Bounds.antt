@@ -2,7 +2,7 @@
 -- at 0, and the drill tells of each answer what it was given for.
 use mathlib.Core.Path.{_≡_, refl, sym, subst}
 use mathlib.Core.Bool.{Bool, true, false, cond, _||_, not}
-use Prim.Native.Nat.{ℕ, _*_, _^_, _≤_, _<_}
+use Prim.Native.Nat.{ℕ, _*_, _≤_}
 use native.Mathlib.Omega.{arith}
 use borrow.Author.Tests.{ltb-false, eqb-true}
 use lib.Dec.{ltb, eqb, leb}
@@ -28,7 +28,7 @@ use Rattle.attester.specs.Verify.{verify}
 use Rattle.attester.specs.Extract.{Extraction, extracted, extract}
 use Rattle.attester.specs.Extract as extraction
 use Rattle.attester.proofs.AdmissionLaws.{admit-admitted, admit-refused}
-use Rattle.attester.proofs.PlaceLaws.{verify-refused, extract-level, extract-refused}
+use Rattle.attester.proofs.PlaceLaws.{verify-refused, extract-passed, extract-refused}
 use Rattle.attester.proofs.Longest.{longest-issued-first}
 use Rattle.tree.specs.Edition.{width, most}
 use Rattle.tree.specs.Admitted.{answer-of}
@@ -38,7 +38,7 @@ use Rattle.attestation.specs.Verify.{verdict-of}
 use Rattle.extractor.specs.Extract.{extraction-answer}
 use Rattle.contradiction.specs.Shows.{Refused-for, wrong-size, wrong-text, more-than-one}
 use Rattle.contradiction.proofs.Shows.{shows}
-use Rattle.sagebutton.specs.Bounds.{Refusals-within, Answers-within, Bounds}
+use Rattle.sagebutton.specs.Bounds.{Answers-within, Bounds}
 
 -- an answer of at most `value`, or a refusal with its number and a place of at most `place`
 abbrev Within : ℕ → ℕ → Answer → Type 0
@@ -132,7 +132,7 @@ unfolding extraction-answer
 extract-within H x d a b n m = go (extract H width x d a b n m) refl
   where
     go : (e : Extraction) → extract H width x d a b n m ≡ e → Within 31 2 (extraction-answer e)
-    go (extracted f) e = extract-level H width x d a b n m f e
+    go (extracted f) e = extract-passed H width x d a b n m f e
     go (extraction.refused i j) e = extract-refused H width x d a b n m i j e
 
 drill-within : {s out₁ out₂ : Octets} {m p : ℕ} → Refused-for s out₁ out₂ m p → Is-refusal m × (p ≤ 3003)

@@ -25,22 +25,23 @@ pub record Answers-within (value place : ℕ) (Meets : Answer → Type 0) : Type
   pub done : (n : ℕ) → Meets (Done n) → n ≤ value
   pub refusals : Refusals-within place Refused Meets
 
+-- each function's largest answer, and largest place
 pub record Bounds : Type 0 where
-  -- a message's octets
+  -- the octets of a message
   pub hash : (msg out out′ : Octets) → Answers-within 65535 0 (λ r. Hashed msg out r out′)
-  -- codes, 3,000 at most, and the line after them
+  -- the codes of a list; the line after the two head lines and 3,000 codes
   pub read-list : (text out out′ : Octets) → Answers-within 3000 3003 (λ r. Read text out r out′)
-  -- keys, and the index of one
+  -- the keys of a list; the index of the last of 3,000
   pub digest : (profile : ℕ) (keys out out′ : Octets) → Answers-within 3000 2999 (λ r. Digested profile keys out r out′)
-  -- 01: "the longest we issue is 586"
+  -- 01: "the longest we issue is 586"; the same index
   pub attest : (profile : ℕ) (x keys out out′ : Octets) → Answers-within 586 2999 (λ r. Attested profile x keys out r out′)
-  -- 01: "The longest the verifier takes is 1,731 octets": the first octet that is left over
+  -- 01: "The longest the verifier takes is 1,731 octets"; the offset of the octet after so many
   pub verify : (profile : ℕ) (x d a : Octets) → Refusals-within 1731 verdict.Refused (Verified profile x d a)
-  -- levels passed, of 32, and which attestation
+  -- the levels passed, of 32; which of two attestations
   pub extract : (profile : ℕ) (x d a b out₁ out₂ out₁′ out₂′ : Octets) → Answers-within 31 2 (λ r. Extracted profile x d a b out₁ out₂ r out₁′ out₂′)
-  -- a number below the bound, which has 32 bits
+  -- 02 (vi): "at most 1,048,576 of them", and here any bound of 32 bits: a number below it
   pub drill-found : (text : Octets) (bound : ℕ) (out₁ out₂ out₁′ out₂′ : Octets) → bound < 2 ^ 32
       → (n : ℕ) → Drilled text bound out₁ out₂ (outcome.Found n) out₁′ out₂′ → n < bound
-  -- the text's refusals
+  -- the line of a list's text
   pub drill : (text : Octets) (bound : ℕ) (out₁ out₂ out₁′ out₂′ : Octets)
       → Refusals-within 3003 outcome.Refused (λ r. Drilled text bound out₁ out₂ r out₁′ out₂′)

@@ -33,16 +33,18 @@ pub record Bits (r refusal none value-or-place : ℕ) : Type 0 where
   pub middle : r / 2 ^ 32 % 2 ^ 16 ≡ none
   pub high : r / 2 ^ 48 ≡ refusal
 
--- the call was accepted
+-- the call was accepted: it answers something
 abbrev pub Accepted : Answer → Type 0
 Accepted (Done n) = Unit {0}
 Accepted (Refused m p) = ⊥
 
+-- it says Present or Absent
 abbrev pub Verdict-accepted : Verdict → Type 0
 Verdict-accepted verdict.Present = Unit {0}
 Verdict-accepted verdict.Absent = Unit {0}
 Verdict-accepted (verdict.Refused m p) = ⊥
 
+-- it found a number, or none
 abbrev pub Drill-accepted : Outcome → Type 0
 Drill-accepted (outcome.Found n) = Unit {0}
 Drill-accepted outcome.None = Unit {0}
@@ -52,7 +54,7 @@ Drill-accepted (outcome.Refused m p) = ⊥
 unfoldable pub unpacked : ℕ → Answer
 unpacked r = cond (eqb (r / 2 ^ 48) 0) (Done (r % 2 ^ 32)) (Refused (r / 2 ^ 48) (r % 2 ^ 32))
 
--- the verdict
+-- the verdict that a caller reads
 unfoldable pub unpacked-verdict : ℕ → Verdict
 unpacked-verdict r =
     cond (eqb (r / 2 ^ 48) 0)
@@ -74,7 +76,7 @@ pub record Tells {A : Type 0} (number none value : A → ℕ) (Accepted : A → 
   pub accepted-if-zero : r / 2 ^ 48 ≡ 0 → Accepted a
   pub exactly : a ≡ unpack r
 
--- every number that an export with such a promise may answer tells the answer
+-- every number that an export with such a promise may answer tells the answer; so of verdicts, and of the drill's outcomes
 abbrev pub Answers-told : (Answer → Type 0) → Type 0
 Answers-told Meets = (r : ℕ) (p : Packed packed Meets r) → Tells number (λ a. 0) value Accepted unpacked r (p .told)
 
