@@ -8,6 +8,9 @@ use Rattle.examples.proofs.Box.{examples-hold}
 use Rattle.examples.proofs.Values.{values}
 use Rattle.contradiction.proofs.Shows.{shows}
 use Rattle.sagebutton.specs.Proved.{Proved}
+use Rattle.sagebutton.proofs.Bounds.{bounds}
+use Rattle.sagebutton.proofs.Packed.{numbers-tell}
+use Rattle.sagebutton.proofs.VerdictNumber.{verdicts-unmistakable}
 use Rattle.sagebutton.proofs.OneOutcome.{every-input-has-one-outcome}
 use Rattle.sagebutton.proofs.Profiles.{profiles}
 use Rattle.sagebutton.proofs.Demand1.{demand-1}
@@ -25,6 +28,9 @@ proved = record {
   demand-3-for-any = theory3.demand-3;
   verdicts-tell-paths = theory3.verdicts-tell-paths;
   one-outcome = every-input-has-one-outcome;
+  bounds = bounds;
+  numbers-tell = numbers-tell;
+  verdicts-unmistakable = verdicts-unmistakable;
   profiles = profiles;
   drill-shows = shows;
   drill-contradicts = drill-contradicts;

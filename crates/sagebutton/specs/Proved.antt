@@ -15,6 +15,9 @@ use Rattle.attester.specs.Demand3 as theory3
 use Rattle.examples.specs.Box.{Examples-hold}
 use Rattle.examples.specs.Values.{Values}
 use Rattle.contradiction.specs.Shows.{Shows}
+use Rattle.sagebutton.specs.Bounds.{Bounds}
+use Rattle.sagebutton.specs.Packed.{Numbers-tell}
+use Rattle.sagebutton.specs.VerdictNumber.{Verdicts-unmistakable}
 use Rattle.sagebutton.specs.OneOutcome.{Every-input-has-one-outcome}
 use Rattle.sagebutton.specs.Profiles.{Profiles}
 use Rattle.sagebutton.specs.Demand1.{Demand-1}
@@ -32,8 +35,11 @@ pub record Proved : Type 0 where
   pub demand-2-for-any : (H : Octets → Octets) (w most : ℕ) → theory2.Demand-2 H w most
   pub demand-3-for-any : (H : Octets → Octets) (w : ℕ) → theory3.Demand-3 H w
   pub verdicts-tell-paths : (H : Octets → Octets) (w : ℕ) → theory3.Verdicts-tell-paths H w
-  -- one outcome for every input
+  -- one outcome for every input, how large its answer can be, and that an export's number tells it
   pub one-outcome : Every-input-has-one-outcome
+  pub bounds : Bounds
+  pub numbers-tell : Numbers-tell
+  pub verdicts-unmistakable : Verdicts-unmistakable
   -- the profiles, and the drill
   pub profiles : Profiles
   pub drill-shows : Shows
