@@ -24,10 +24,11 @@ pub record Taken (H : Octets → Octets) (w : ℕ) (a : Octets) : Type 0 where
   pub digest : Octets
   pub accepted : Accepted (verify H w key digest a)
 
--- what they are issued, or taken, for
+-- what they are issued for: the key, and the list's entries
 abbrev pub issued-for : {H : Octets → Octets} {w most : ℕ} (a : Octets) → Issued H w most a → List Octets
 issued-for a i = i .key ∷ i .list
 
+-- what they are taken for: the key and the digest
 abbrev pub taken-for : {H : Octets → Octets} {w : ℕ} (a : Octets) → Taken H w a → List Octets
 taken-for a t = t .key ∷ t .digest ∷ []
 
