@@ -6,6 +6,12 @@
  *   bits 48 to 63   the number of the refusal, 0 if the call was accepted
  * A refusal writes nothing. An accepted call writes to the front of its output; octets beyond that stay as they were.
  *
+ * Keep a result in 64 bits, as a uint64_t: an int takes bits 0 to 31 alone, of which gcc and Clang warn only with -Wconversion, and
+ * a refused call then looks accepted, with the place for an answer. As a condition every verdict is true, a refused one too. Use:
+ *     uint64_t verdict = sagebutton_verify(SAGEBUTTON_FULL, key, 20, digest, 32, att, att_len);
+ *     if (sagebutton_is_present(verdict)) listed();
+ *     else if (sagebutton_is_absent(verdict)) not_listed(); else nothing_is_shown(sagebutton_refusal(verdict));
+ *
  * A key is any 20 octets; a code's key is its 1 to 20 ASCII octets, then zeros. sagebutton_attest and sagebutton_verify do not ask
  * whether a key is a code's: one made of `04-Mar` comes out absent. 60,000 octets hold the keys of every list that is accepted,
  * and 586 every attestation that is issued.
@@ -17,8 +23,9 @@
  * with 10.
  *
  * What the caller must keep, since C cannot say it: each pointer is valid for its length and is not null, also for a length
- * of 0; an output overlaps no other argument; no length exceeds PTRDIFF_MAX; and no other thread writes to the arguments
- * during the call.
+ * of 0; an output overlaps no other argument; no length exceeds PTRDIFF_MAX; and during the call nothing else writes to the
+ * arguments, neither another thread nor another process nor another mapping of the same file, and nobody shortens a mapped file:
+ * what changes after it was judged can end in a memory fault. Whoever has such input copies it first and passes the copy.
  */
 #ifndef SAGEBUTTON_H
 #define SAGEBUTTON_H
@@ -26,24 +33,35 @@
 #include <stddef.h>
 #include <stdint.h>
 
+/* Marks every function here: a compiler that can warns where a result is thrown away. */
+#if (defined __cplusplus && __cplusplus >= 201703L) || (defined __STDC_VERSION__ && __STDC_VERSION__ >= 202311L)
+#define SAGEBUTTON_NODISCARD [[nodiscard]]
+#elif defined __GNUC__
+#define SAGEBUTTON_NODISCARD __attribute__((__warn_unused_result__))
+#else
+#define SAGEBUTTON_NODISCARD
+#endif
+
 #ifdef __cplusplus
 extern "C" {
 #endif
 
 /* The number of the refusal; 0 for an accepted call. */
-static inline unsigned sagebutton_refusal(uint64_t result) { return (unsigned)(result >> 48); }
+SAGEBUTTON_NODISCARD static inline unsigned sagebutton_refusal(uint64_t result) { return (unsigned)(result >> 48); }
 
 /* What an accepted call answers, or the place of a refusal. */
-static inline uint32_t sagebutton_value(uint64_t result) { return (uint32_t)result; }
+SAGEBUTTON_NODISCARD static inline uint32_t sagebutton_value(uint64_t result) { return (uint32_t)result; }
 
 /* SHA-256 (FIPS 180-4) of 0 to 65,535 octets into exactly 32. Answers msg_len.
  * Refuses: 1 at 0, msg_len over 65,535 or out_len not 32. */
+SAGEBUTTON_NODISCARD
 uint64_t sagebutton_hash(const uint8_t *msg, size_t msg_len, uint8_t *out, size_t out_len);
 
 /* Reads a list of codes and writes 20 octets per key. Answers the count.
  * Refuses, in this order: 1 at 0, text over 65,535 octets; 12 at the line, first or second line; 2 at 2, count 0; 4 at 2,
  * count over 3,000; 6 at 0, out_len under 20 times the count; then at the line: 14, no LF or no line; 13, not a code;
  * 5, not above the code before; last 14 at the count plus 3, octets left over. */
+SAGEBUTTON_NODISCARD
 uint64_t sagebutton_read_list(const uint8_t *text, size_t text_len, uint8_t *out, size_t out_len);
 
 /* The profiles. */
@@ -53,27 +71,41 @@ uint64_t sagebutton_read_list(const uint8_t *text, size_t text_len, uint8_t *out
 /* The digest of a list of keys, 20 octets each and strictly ascending, into exactly 32 octets. Answers the number of keys.
  * Refuses, in this order: 17 at 0, an unknown profile; 1 at 0, out_len not 32; 2 at 0, no keys; 3 at 0, not a multiple of 20
  * octets; 4 at 0, over 3,000 keys; 5 at the index, counted from 0, of the first key not above the one before. */
+SAGEBUTTON_NODISCARD
 uint64_t sagebutton_digest(uint32_t profile, const uint8_t *keys, size_t keys_len, uint8_t *out, size_t out_len);
 
 /* The attestation for a key, listed or not, under a list of keys, 20 octets each and strictly ascending, into the front of out.
  * Answers its length.
  * Refuses, in this order: 17 at 0, an unknown profile; 1 at 0, key_len not 20; 2, 3, 4 and 5 as sagebutton_digest; 6 at 0,
  * out_len under the length. */
+SAGEBUTTON_NODISCARD
 uint64_t sagebutton_attest(uint32_t profile, const uint8_t *key, size_t key_len, const uint8_t *keys, size_t keys_len,
                            uint8_t *out, size_t out_len);
 
 /* What an accepted attestation shows of the key: that it is listed, or that it is not. README.md, "What is assumed", says on what
- * that rests. */
-#define SAGEBUTTON_PRESENT 1
-#define SAGEBUTTON_ABSENT 0
+ * that rests. It is proved that bits 0 to 31 of a refused verdict are never one of these numbers, since its place is at most 1,731:
+ * a verdict that was cut to 32 bits after all does not turn a refusal into Present or Absent. */
+#define SAGEBUTTON_PRESENT 65537
+#define SAGEBUTTON_ABSENT 65536
+
+/* Whether a verdict is Present, and whether it is Absent: 1 or 0. Of a refused one both are 0. They look at the refusal and the
+ * value alone; do not compare the whole result, since bits 32 to 47 may come to hold something. */
+SAGEBUTTON_NODISCARD static inline int sagebutton_is_present(uint64_t verdict)
+{
+    return sagebutton_refusal(verdict) == 0 && sagebutton_value(verdict) == SAGEBUTTON_PRESENT;
+}
+SAGEBUTTON_NODISCARD static inline int sagebutton_is_absent(uint64_t verdict)
+{
+    return sagebutton_refusal(verdict) == 0 && sagebutton_value(verdict) == SAGEBUTTON_ABSENT;
+}
 
 /* The verdict on any octets, whoever made them, as an attestation for a key under a digest: SAGEBUTTON_PRESENT or
- * SAGEBUTTON_ABSENT, if it is not refused. Look at sagebutton_refusal first, or compare the whole result: a refusal says nothing
- * of the key.
+ * SAGEBUTTON_ABSENT, if it is not refused. A refusal says nothing of the key.
  * Refuses, in this order: 17 at 0, an unknown profile; 1 at 0, key_len not 20 or digest_len not 32; 7 at the offset of the first
  * octet that cannot stand there, or at att_len if the attestation ends early; 8 at 0, a child at the foot where the key would
  * be; 9 at the level, counted from the foot's 0, where the key itself stands above the foot or a key equals the one below it;
  * 10 at 0, the digest differs. */
+SAGEBUTTON_NODISCARD
 uint64_t sagebutton_verify(uint32_t profile, const uint8_t *key, size_t key_len, const uint8_t *digest, size_t digest_len,
                            const uint8_t *att, size_t att_len);
 
@@ -84,6 +116,7 @@ uint64_t sagebutton_verify(uint32_t profile, const uint8_t *key, size_t key_len,
  * Refuses, in this order: 17 at 0, an unknown profile; 1 at 0, key_len not 20, digest_len not 32, out1_len or out2_len not 85;
  * the number with which sagebutton_verify refuses the first attestation, at 1; that of the second, at 2; 11 at 0, the same
  * verdict on both. */
+SAGEBUTTON_NODISCARD
 uint64_t sagebutton_extract(uint32_t profile, const uint8_t *key, size_t key_len, const uint8_t *digest, size_t digest_len,
                             const uint8_t *first, size_t first_len, const uint8_t *second, size_t second_len,
                             uint8_t *out1, size_t out1_len, uint8_t *out2, size_t out2_len);
@@ -99,6 +132,7 @@ uint64_t sagebutton_extract(uint32_t profile, const uint8_t *key, size_t key_len
  * SAGEBUTTON_NONE. docs/DRILL.md says what to make of it.
  * Refuses, in this order: 1 at 0, out1_len or out2_len not 85; what sagebutton_read_list refuses the text with, with room for every
  * list; 16 at 2, more than one code. It takes some 64,000 octets of stack. */
+SAGEBUTTON_NODISCARD
 uint64_t sagebutton_drill(const uint8_t *text, size_t text_len, uint32_t bound,
                           uint8_t *out1, size_t out1_len, uint8_t *out2, size_t out2_len);
 

@@ -8,6 +8,10 @@ pub const FULL: u32 = 0;
 /// Labels of 2 octets, under which there are contradictions.
 pub const DRILL: u32 = 1;
 
+/// The numbers of the two verdicts.
+pub const PRESENT: usize = 65_537;
+pub const ABSENT: usize = 65_536;
+
 #[link(name = "sagebutton", kind = "static")]
 extern "C" {
     pub fn sagebutton_hash(msg: *const u8, msg_len: usize, out: *mut u8, out_len: usize) -> u64;
@@ -82,7 +86,7 @@ pub fn attest(input: &[u8], output: &mut [u8]) -> Option<usize> {
     })
 }
 
-/// The input is a key, a digest and then the attestation. Present is 1, Absent is 0.
+/// The input is a key, a digest and then the attestation. Answers PRESENT or ABSENT.
 pub fn verify(input: &[u8], _: &mut [u8]) -> Option<usize> {
     let (key, rest) = input.split_at(20);
     let (digest, att) = rest.split_at(32);

@@ -17,9 +17,10 @@ int main(void)
         printf("refused %u %u\n", sagebutton_refusal(read), (unsigned)sagebutton_value(read));
         return 1;
     }
-    /* what was read is always accepted */
-    sagebutton_digest(SAGEBUTTON_FULL, keys, 20 * (size_t)sagebutton_value(read), digest, sizeof digest);
-    printf("digest %u ", (unsigned)sagebutton_value(read));
+    uint64_t digested = sagebutton_digest(SAGEBUTTON_FULL, keys, 20 * (size_t)sagebutton_value(read), digest, sizeof digest);
+    if (sagebutton_refusal(digested))
+        return 2; /* never: what was read is always accepted */
+    printf("digest %u ", (unsigned)sagebutton_value(digested));
     for (int i = 0; i < 32; i++)
         printf("%02x", digest[i]);
     printf("\n");

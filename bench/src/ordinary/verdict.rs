@@ -1,6 +1,7 @@
 //! Judging an attestation in ordinary Rust: its form read once, as parts of the octets.
 
 use super::sha256::sha256;
+use crate::face::{ABSENT, PRESENT};
 use std::cmp::Ordering;
 
 pub type Record = [u8; 85];
@@ -14,14 +15,14 @@ pub struct Sound<'a> {
     siblings: [Option<&'a [u8]>; 31],
 }
 
-/// Document 01's verdict: 1 for Present, 0 for Absent, or None where it refuses. The input
-/// is a key, a digest and then the attestation.
+/// Document 01's verdict: PRESENT, ABSENT, or None where it refuses. The input is a key, a
+/// digest and then the attestation.
 #[inline(never)]
 pub fn verify<const ROUNDS: usize>(input: &[u8], _: &mut [u8]) -> Option<usize> {
     let (x, rest) = input.split_at(20);
     let (digest, octets) = rest.split_at(32);
     let label = last_label::<ROUNDS, 32>(x, octets)?;
-    (label == digest).then_some(usize::from(x == &octets[1..21]))
+    (label == digest).then_some(if x == &octets[1..21] { PRESENT } else { ABSENT })
 }
 
 /// Steps 2 to 5; a label keeps so many octets of the hash, and zeros after them.

@@ -191,8 +191,9 @@ pub fn drilled(drilled: Option<Drilled>) -> Accepted {
     }
 }
 
-pub const PRESENT: u64 = 1;
-pub const ABSENT: u64 = 0;
+/// Above every place that a refused verdict can have.
+pub const PRESENT: u64 = 65_537;
+pub const ABSENT: u64 = 65_536;
 
 /// The header's only answer that has bit 32.
 pub const NONE: u64 = 1 << 32;
