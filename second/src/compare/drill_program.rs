@@ -1,4 +1,5 @@
-//! The program `drill`. Each of its runs is timed.
+//! The program `drill`. How long its longest run takes is printed and not judged, for that
+//! hangs on what else the machine does.
 
 use super::codes::{code, STYLES};
 use super::comparison::{hex, Comparison, Expected};
@@ -13,9 +14,6 @@ use second::answer::{Outcome, MORE_THAN_ONE_CODE, OUTPUT_TOO_SHORT};
 use second::drill::PROGRAM_BOUND;
 use std::time::Duration;
 
-/// A run that takes so long is a failure.
-const TOO_LONG: Duration = Duration::from_secs(2);
-
 pub fn run(comparison: &mut Comparison, numbers: &Numbers) {
     let built = concat!(env!("CARGO_MANIFEST_DIR"), "/../target/bin/drill");
     let Some(program) = Program::found(comparison, PROGRAM_DRILL, "SAGEBUTTON_DRILL", built) else {
@@ -25,11 +23,7 @@ pub fn run(comparison: &mut Comparison, numbers: &Numbers) {
     let cases = by_hand().into_iter().chain(drawn(comparison, numbers));
     for Case { name, text, print } in cases.collect::<Vec<Case>>() {
         let outcome = outcome(numbers, &text);
-        let took = program.compare(comparison, &name, &text, &outcome, &print);
-        if took >= TOO_LONG {
-            comparison.differs(&name, PROGRAM_DRILL, &[&text], &format!("takes {took:.1?}"));
-        }
-        longest = longest.max(took);
+        longest = longest.max(program.compare(comparison, &name, &text, &outcome, &print));
     }
     println!("longest run of {PROGRAM_DRILL} {:.2} s", longest.as_secs_f64());
 }

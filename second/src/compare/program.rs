@@ -65,9 +65,10 @@ impl Program {
         took
     }
 
+    /// Our programs end with status 0 whatever they print; another, or a signal, is a crash.
     fn judge(&self, comparison: &mut Comparison, case: &str, text: &[u8], output: &Output, print: &str) {
         let printed = String::from_utf8_lossy(&output.stdout);
-        if printed != print || !output.stderr.is_empty() || output.status.code().is_none() {
+        if printed != print || !output.stderr.is_empty() || !output.status.success() {
             let fault = format!("prints {printed:?}, expected {print:?}; {}", output.status);
             comparison.differs(case, self.name, &[text], &fault);
         }
