@@ -19,7 +19,7 @@ use Rattle.codes.specs.Text as text
 use Rattle.codes.specs.Read.{answer}
 use Rattle.codes.proofs.BoundLaws.{reading-few, reading-refused}
 use Rattle.profile.specs.Profile.{known, label, in-profile}
-use Rattle.profile.proofs.ProfileLaws.{label-length}
+use Rattle.profile.proofs.ProfileLaws.{label-length, label-octets}
 use Rattle.attester.specs.Admission.{Admission, admitted, refused, admit}
 use Rattle.attester.specs.Attestation.{attestation}
 use Rattle.attester.specs.Verdict.{Judgement, present, absent}
@@ -108,7 +108,7 @@ attest-within profile x keys room = go (eqb (length x) 20) (admit width most key
         issued : (c : Bool) → Within 586 2999 (cond c (Done (length (attestation (label profile) es x))) (Refused too-short 0))
         issued false = ((omega arith, omega arith), omega arith)
         issued true =
-            longest-issued-first (label profile) (label-length profile) .most (attestation (label profile) es x)
+            longest-issued-first (label profile) (label-length profile) (label-octets profile) .most (attestation (label profile) es x)
             record { list = es; listing = admit-admitted width most keys es e .listing; key = x; key-size = eqb-true (length x) 20 n; is = refl }
 
 verdict-within : (H : Octets → Octets) (x d a : Octets) → Verdict-within 1731 (verdict-of (verify H width x d a))
