@@ -2,18 +2,18 @@
 -- form that was read took, section by section, the octets that the rendering of its path has.
 use mathlib.Core.Path.{_≡_, refl, sym, ap, _∙_, subst}
 use mathlib.Core.Bool.{Bool, true, false, _&&_}
-use mathlib.Core.List.{List, [], _∷_, _++_, map, flatten, append-nil, map-id}
+use mathlib.Core.List.{List, [], _∷_, _++_, map, flatten, append-assoc, append-nil, map-id}
 use mathlib.Core.Option.{none, some}
-use Prim.Native.Nat.{ℕ, zero, suc, _-_, _≤_, _<_}
+use Prim.Native.Nat.{ℕ, zero, suc, _+_, _-_, _≤_, _<_}
 use native.Mathlib.Omega.{arith}
 use borrow.Author.Tests.{leb-true, le-leb, eq-eqb, eqb-true}
 use lib.Dec.{leb, eqb}
-use lib.ListN.{length}
+use lib.ListN.{length, length-append}
 use Rattle.octets.specs.Order.{Octets}
 use Rattle.attester.specs.Record.{Child, Labelled}
 use Rattle.attester.specs.Path.{Path, foot, foot-left, foot-right, height, keys, siblings, Sized}
 use Rattle.attester.specs.Reader.{short, wrong, Read, got, stopped, give, octet, block, many, close}
-use Rattle.attester.specs.Form.{announced, optional, climb, path-of, is-count, sections, formed, placed, form}
+use Rattle.attester.specs.Form.{announced, optional, climb, path-of, is-count, sections, formed, spoilt, placed, form}
 use Rattle.attester.specs.Attestation.{optional-octets, render}
 use Rattle.attester.proofs.ReaderLaws.{All, went, octet-back, octet-only, close-only, Inverse, block-inverse, many-back, many-only}
 use Rattle.attester.proofs.PathLaws.{keys-length, siblings-length, throughout-keys, throughout-siblings, sized-left, sized-right, path-of-sections, keys-climb, siblings-climb, foot-left-climb, foot-right-climb, sized-climb}
@@ -61,30 +61,44 @@ true-is-count k g h = rw (le-leb 1 k g, le-leb k 32 h)
 -- What is rendered is read
 
 module _ (w : ℕ) (p : Path) (z : Sized w p) (h : height p < 32) where
-  pub sections-of-render : sections w (render p) ≡ got p []
-  unfolding sections render close
-  sections-of-render =
+  -- whatever follows
+  sections-before : (t : Octets) → sections w (render p ++ t) ≡ close p t
+  unfolding sections render
+  sections-before t =
       let n = height p in
       let s₅ = flatten (map optional-octets (siblings p)) in
-      let s₄ = n ∷ s₅ in
+      let s₄ = n ∷ (s₅ ++ t) in
       let s₃ = optional-octets (foot-right p) ++ s₄ in
       let s₂ = optional-octets (foot-left p) ++ s₃ in
       let s₁ = flatten (keys p) ++ s₂ in
+      let all : (flatten (keys p) ++ (optional-octets (foot-left p) ++ (optional-octets (foot-right p) ++ (n ∷ s₅)))) ++ t ≡ s₁ = simp append-assoc in
       let entries : many (block w) (suc n) s₁ ≡ got (keys p) s₂ =
       rw map-id at (many-back (block w) (λ e. e) (λ e. length e ≡ w) (block-inverse w) (suc n) (keys p) s₂ (keys-length p) (throughout-keys (λ e. length e ≡ w) Labelled p z)) in
-      let labels : many optional n s₅ ≡ got (siblings p) [] =
-      rw append-nil at (many-back optional optional-octets Labelled optional-inverse n (siblings p) [] (siblings-length p) (throughout-siblings (λ e. length e ≡ w) Labelled p z)) in
+      let labels : many optional n (s₅ ++ t) ≡ got (siblings p) t =
+      many-back optional optional-octets Labelled optional-inverse n (siblings p) t (siblings-length p) (throughout-siblings (λ e. length e ≡ w) Labelled p z) in
       let one-less : suc n - 1 ≡ n = omega arith in
       rw (
+        all,
         octet-back is-count (suc n) s₁ (true-is-count (suc n) (omega arith) h),
         entries,
         optional-inverse .back (foot-left p) s₃ (sized-left w p z),
         optional-inverse .back (foot-right p) s₄ (sized-right w p z),
-        octet-back (λ m. eqb m (suc n - 1)) n s₅ (eq-eqb n (suc n - 1) (omega arith)),
+        octet-back (λ m. eqb m (suc n - 1)) n (s₅ ++ t) (eq-eqb n (suc n - 1) (omega arith)),
         labels,
         path-of-sections p,
       )
       refl
+
+  pub sections-of-render : sections w (render p) ≡ got p []
+  unfolding close
+  sections-of-render = rw append-nil at (sections-before [])
+
+  -- the first octet that is left over can't stand there
+  pub form-left-over : (c : ℕ) (t : Octets) → form w (render p ++ (c ∷ t)) ≡ spoilt (length (render p))
+  unfolding form placed close
+  form-left-over c t =
+      let n : length (render p) + suc (length t) - suc (length t) ≡ length (render p) = omega arith in
+      rw (sections-before (c ∷ t), length-append (render p) (c ∷ t), n)
 
   pub form-of-render : form w (render p) ≡ formed p
   unfolding form placed

@@ -2,25 +2,27 @@
 -- bounds; and one of the first two keys of the longest list, and a path of 32 levels with every label, reach them;
 -- these are octets where the labels are.
 use mathlib.Core.Path.{_≡_, refl, ap, _∙_}
-use mathlib.Core.List.{[]}
+use mathlib.Core.List.{[], _∷_, _++_}
 use Prim.Native.Nat.{ℕ, _+_, _*_, _^_, _≤_, _<_, max}
 use native.Mathlib.Decide.{decLe}
 use native.Mathlib.Omega.{arith}
 use lib.ListN.{length, getD, length-take}
 use lib.Pow.{pow-pos}
 use Rattle.octets.specs.Order.{Octets, Are-octets}
-use Rattle.octets.proofs.OctetLaws.{octets-take}
+use Rattle.octets.proofs.OctetLaws.{octets-append, octets-take}
 use Rattle.octets.proofs.OrderLaws.{same-refl}
 use Rattle.attester.specs.Entry.{key}
 use Rattle.attester.specs.Tree.{tree}
 use Rattle.attester.specs.Listing.{Each}
 use Rattle.attester.specs.Path.{height}
+use Rattle.attester.specs.Form.{spoilt, form}
 use Rattle.attester.specs.Verdict.{present, root-record}
 use Rattle.attester.specs.Search.{search}
 use Rattle.attester.specs.Attestation.{render, attestation}
 use Rattle.attester.specs.Verify.{verify}
 use Rattle.attester.specs.Longest.{Issued, Taken, issued-for, taken-for, Longest}
 use Rattle.attester.proofs.ListingLaws.{each-at}
+use Rattle.attester.proofs.FormLaws.{form-left-over}
 use Rattle.attester.proofs.VerdictLaws.{judge-own}
 use Rattle.attester.proofs.VerifyLaws.{verify-rendered, verify-accepted}
 use Rattle.attester.proofs.AttestationLaws.{issued-sized, issued-height}
@@ -37,6 +39,23 @@ key-octets e h = octets-take 20 e h
 key-length : (w : ℕ) (e : Octets) → 20 ≤ w → length e ≡ w → length (key e) ≡ 20
 unfolding key
 key-length w e h n = simp length-take (omega arith)
+
+tower-low : (w : ℕ) → height (tower w 31) < 32
+tower-low w = rw (tower-height w 31) (omega arith)
+
+tower-length : (w : ℕ) → 20 ≤ w → length (render (tower w 31)) ≡ 1091 + 32 * w
+tower-length w wide = omega (arith, render-levels w (tower w 31) (tower-sized w 31 (omega arith)), tower-levels w 31)
+
+tower-rendered : (w : ℕ) → Are-octets (render (tower w 31))
+tower-rendered w = render-octets (tower w 31) (tower-low w) (tower-octets w 31 (omega arith))
+
+-- an octet that is left over after so many has the furthest place of 7
+pub furthest-spoilt : (w : ℕ) → 20 ≤ w → (a : Octets) × Are-octets a × (form w a ≡ spoilt (1091 + 32 * w))
+furthest-spoilt w wide = (
+  render (tower w 31) ++ (0 ∷ []),
+  octets-append (render (tower w 31)) (0 ∷ []) (tower-rendered w) (omega arith, tt),
+  form-left-over w (tower w 31) (tower-sized w 31 (omega arith)) (tower-low w) 0 [] ∙ ap spoilt (tower-length w wide),
+)
 
 module _ (H : Octets → Octets) (H-length : (m : Octets) → length (H m) ≡ 32) (H-octets : (m : Octets) → Are-octets (H m)) where
   -- an entry i of the list of `most` numbers reaches it
@@ -88,9 +107,8 @@ module _ (H : Octets → Octets) (H-length : (m : Octets) → length (H m) ≡ 3
   tower-present w wide =
       let x = key (numbered w 0) in
       let n : length x ≡ 20 = key-length w (numbered w 0) wide (numbered-length w 0 (omega arith)) in
-      let low : height (tower w 31) < 32 = rw (tower-height w 31) (omega arith) in
       let own = judge-own H x (tower w 31) (tower-open w 31) (tower-faultless w 31) in
-      verify-rendered H w x (H (root-record H x (tower w 31))) (tower w 31) n (H-length _) (tower-sized w 31 (omega arith)) low
+      verify-rendered H w x (H (root-record H x (tower w 31))) (tower w 31) n (H-length _) (tower-sized w 31 (omega arith)) (tower-low w)
       ∙ (own ∙ rw (tower-foot w 31, same-refl (key (numbered w 0))))
 
   pub longest-taken : (w : ℕ) → 20 ≤ w → Longest (Taken H w) taken-for (1091 + 32 * w)
@@ -102,8 +120,8 @@ module _ (H : Octets → Octets) (H-length : (m : Octets) → length (H m) ≡ 3
       digest = H (root-record H (key (numbered w 0)) (tower w 31));
       accepted = rw (tower-present w wide) tt;
     };
-    reached = omega (arith, render-levels w (tower w 31) (tower-sized w 31 (omega arith)), tower-levels w 31);
-    octets = render-octets (tower w 31) (rw (tower-height w 31) (omega arith)) (tower-octets w 31 (omega arith));
+    reached = tower-length w wide;
+    octets = tower-rendered w;
     for-octets = (key-octets (numbered w 0) (numbered-octets w 0 (omega arith)), (H-octets _, tt));
   }
 

@@ -1,6 +1,6 @@
 -- Each promise gives the answer by a definition, and the definitions' bounds are laws of their own crates; an unknown profile adds 17
 -- at 0, and the drill tells of each answer what it was given for.
-use mathlib.Core.Path.{_≡_, refl, sym, subst}
+use mathlib.Core.Path.{_≡_, refl, sym, ap, subst, _∙_}
 use mathlib.Core.Bool.{Bool, true, false, cond, _||_, not}
 use Prim.Native.Nat.{ℕ, _*_, _≤_}
 use native.Mathlib.Omega.{arith}
@@ -11,15 +11,15 @@ use Rattle.answer.specs.declared.Answer.{Answer}
 use Rattle.answer.specs.declared.Answer.the-variants.{Done, Refused}
 use Rattle.answer.specs.declared.Verdict.{Verdict}
 use Rattle.answer.specs.declared.Verdict.the-variants as verdict
-use Rattle.answer.specs.Refusals.{size, too-short, unknown-profile, Is-refusal}
-use Rattle.octets.specs.Order.{Octets}
+use Rattle.answer.specs.Refusals.{size, too-short, form, unknown-profile, Is-refusal}
+use Rattle.octets.specs.Order.{Octets, Are-octets}
 use Rattle.sha256.specs.Hash.{hash-answer}
 use Rattle.codes.specs.Text.{Reading, accepted, reading}
 use Rattle.codes.specs.Text as text
 use Rattle.codes.specs.Read.{answer}
 use Rattle.codes.proofs.BoundLaws.{reading-few, reading-refused}
 use Rattle.profile.specs.Profile.{known, label, in-profile}
-use Rattle.profile.proofs.ProfileLaws.{label-length, label-octets}
+use Rattle.profile.proofs.ProfileLaws.{label-length, label-octets, in-known}
 use Rattle.attester.specs.Admission.{Admission, admitted, refused, admit}
 use Rattle.attester.specs.Attestation.{attestation}
 use Rattle.attester.specs.Verdict.{Judgement, present, absent}
@@ -29,12 +29,13 @@ use Rattle.attester.specs.Extract.{Extraction, extracted, extract}
 use Rattle.attester.specs.Extract as extraction
 use Rattle.attester.proofs.AdmissionLaws.{admit-admitted, admit-refused}
 use Rattle.attester.proofs.PlaceLaws.{verify-refused, extract-passed, extract-refused}
-use Rattle.attester.proofs.Longest.{longest-issued-first}
+use Rattle.attester.proofs.VerifyLaws.{verify-spoilt}
+use Rattle.attester.proofs.Longest.{furthest-spoilt, longest-issued-first}
 use Rattle.tree.specs.Edition.{width, most}
 use Rattle.tree.specs.Admitted.{answer-of}
 use Rattle.tree.specs.Digest.{digest-answer}
 use Rattle.attestation.specs.Attest.{issue-answer, attest-answer}
-use Rattle.attestation.specs.Verify.{verdict-of}
+use Rattle.attestation.specs.Verify.{Verified, verdict-of}
 use Rattle.extractor.specs.Extract.{extraction-answer}
 use Rattle.contradiction.specs.Shows.{Refused-for, wrong-size, wrong-text, more-than-one}
 use Rattle.contradiction.proofs.Shows.{shows}
@@ -127,6 +128,15 @@ verify-within profile x d a = go (known profile)
     go true = verdict-within (label profile) x d a
     go false = ((omega arith, omega arith), omega arith)
 
+verify-furthest : (profile : ℕ) (x d : Octets) → known profile ≡ true → length x ≡ 20 → length d ≡ 32
+    → (a : Octets) × Are-octets a × Verified profile x d a (verdict.Refused form 1731)
+unfolding verdict-of
+verify-furthest profile x d k n m =
+    let f = furthest-spoilt width (omega arith) in
+    let v : verdict-of (verify (label profile) width x d (f .0)) ≡ verdict.Refused form 1731 =
+    ap verdict-of (verify-spoilt (label profile) width x d (f .0) n m 1731 (f .2)) in
+    (f .0, f .1, record { answered = sym (in-known verdict.Refused profile (verdict-of (verify (label profile) width x d (f .0))) k ∙ v) })
+
 extract-within : (H : Octets → Octets) (x d a b : Octets) (n m : ℕ) → Within 31 2 (extraction-answer (extract H width x d a b n m))
 unfolding extraction-answer
 extract-within H x d a b n m = go (extract H width x d a b n m) refl
@@ -155,6 +165,7 @@ bounds = record {
     numbered = λ m p h. subst (Verdict-within 1731) (sym (h .answered)) (verify-within profile x d a) .0;
     placed = λ m p h. subst (Verdict-within 1731) (sym (h .answered)) (verify-within profile x d a) .1;
   };
+  verify-furthest = verify-furthest;
   extract = λ profile x d a b out₁ out₂ out₁′ out₂′.
       let e = extraction-answer (extract (label profile) width x d a b (length out₁) (length out₂)) in
       answers-within 31 2 (in-profile Refused profile e)

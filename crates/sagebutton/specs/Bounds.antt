@@ -1,13 +1,17 @@
 -- How large the answers are, of the promises alone: what an accepted call answers, and a refusal's number and place. Proved in
 -- `proofs/Bounds.antt`.
+use mathlib.Core.Path.{_≡_}
+use mathlib.Core.Bool.{true}
 use Prim.Native.Nat.{ℕ, _^_, _≤_, _<_}
+use lib.ListN.{length}
 use Rattle.answer.specs.declared.Answer.{Answer}
 use Rattle.answer.specs.declared.Answer.the-variants.{Done, Refused}
 use Rattle.answer.specs.declared.Verdict.the-variants as verdict
-use Rattle.answer.specs.Refusals.{Is-refusal}
-use Rattle.octets.specs.Order.{Octets}
+use Rattle.answer.specs.Refusals.{form, Is-refusal}
+use Rattle.octets.specs.Order.{Octets, Are-octets}
 use Rattle.sha256.specs.Hash.{Hashed}
 use Rattle.codes.specs.Read.{Read}
+use Rattle.profile.specs.Profile.{known}
 use Rattle.tree.specs.Digest.{Digested}
 use Rattle.attestation.specs.Attest.{Attested}
 use Rattle.attestation.specs.Verify.{Verified}
@@ -37,6 +41,9 @@ pub record Bounds : Type 0 where
   pub attest : (profile : ℕ) (x keys out out′ : Octets) → Answers-within 586 2999 (λ r. Attested profile x keys out r out′)
   -- 01: "The longest the verifier takes is 1,731 octets"; the offset of the octet after so many
   pub verify : (profile : ℕ) (x d a : Octets) → Refusals-within 1731 verdict.Refused (Verified profile x d a)
+  -- and some octets are refused there, for each key and each digest
+  pub verify-furthest : (profile : ℕ) (x d : Octets) → known profile ≡ true → length x ≡ 20 → length d ≡ 32
+      → (a : Octets) × Are-octets a × Verified profile x d a (verdict.Refused form 1731)
   -- the levels passed, of 32; which of two attestations
   pub extract : (profile : ℕ) (x d a b out₁ out₂ out₁′ out₂′ : Octets) → Answers-within 31 2 (λ r. Extracted profile x d a b out₁ out₂ r out₁′ out₂′)
   -- 02 (vi): "at most 1,048,576 of them", and here any bound of 32 bits: a number below it
