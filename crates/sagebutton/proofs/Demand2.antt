@@ -45,7 +45,7 @@ use Rattle.attestation.specs.Verify.{Verified, verdict-of}
 use Rattle.sagebutton.specs.Demand2.{Issues, Listing-of, Accepted-are-listings, Read-are-listings, Demand-2}
 use Rattle.sagebutton.proofs.Demand1.{reading-listing, keys-front, entries-front-read}
 
-verdict-cond : (b : Bool) → verdict-of (cond b present absent) ≡ cond b Present Absent
+pub verdict-cond : (b : Bool) → verdict-of (cond b present absent) ≡ cond b Present Absent
 unfolding verdict-of
 verdict-cond true = refl
 verdict-cond false = refl
@@ -140,7 +140,7 @@ module _ (profile : ℕ) (k : known profile ≡ true) where
       go true e f = eqb-true (length x) 20 e
       go false e f = let z : _≡_ {A = ℕ} 0 1 = cc in absurd (omega arith)
 
-  digest-room : (keys d : Octets) (n : ℕ) (d′ : Octets) → Digested profile keys d (Done n) d′ → length d ≡ 32
+  pub digest-room : (keys d : Octets) (n : ℕ) (d′ : Octets) → Digested profile keys d (Done n) d′ → length d ≡ 32
   unfolding digest-answer
   digest-room keys d n d′ g = go (eqb (length d) 32) refl (digest-told g)
     where
@@ -190,7 +190,7 @@ module _ (profile : ℕ) (k : known profile ≡ true) where
         ∙ verdict-cond (listed x es)
 
 -- what was digested is of a known profile
-digest-known : (profile : ℕ) (keys d : Octets) (n : ℕ) (d′ : Octets) → Digested profile keys d (Done n) d′ → known profile ≡ true
+pub digest-known : (profile : ℕ) (keys d : Octets) (n : ℕ) (d′ : Octets) → Digested profile keys d (Done n) d′ → known profile ≡ true
 digest-known profile keys d n d′ g =
     other-known Refused profile (digest-answer width most keys (length d)) (g .answered) (λ e. let z : _≡_ {A = ℕ} 0 1 = cc in omega arith)
 

@@ -65,11 +65,11 @@ module _ (profile : ℕ) (x d a : Octets) where
   told v n e =
       e .answered ∙ in-known verdicts.Refused profile (verdict-of (verify (label profile) width x d a)) (accepted-known profile x d a v e n)
 
-  is-present : Verified profile x d a Present → verify (label profile) width x d a ≡ present
+  pub is-present : Verified profile x d a Present → verify (label profile) width x d a ≡ present
   is-present e =
       judged-present (verify (label profile) width x d a) (told Present (λ f. let z : _≡_ {A = ℕ} 0 1 = cc in omega arith) e)
 
-  is-absent : Verified profile x d a Absent → verify (label profile) width x d a ≡ absent
+  pub is-absent : Verified profile x d a Absent → verify (label profile) width x d a ≡ absent
   is-absent e =
       judged-absent (verify (label profile) width x d a) (told Absent (λ f. let z : _≡_ {A = ℕ} 0 1 = cc in omega arith) e)
 

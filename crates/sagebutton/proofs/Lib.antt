@@ -7,6 +7,7 @@ pub mod Demand1
 pub mod Demand2
 pub mod Demand3
 pub mod DrillContradicts
+pub mod Lies
 pub mod WrongExtractors
 pub mod WrongPrograms
 pub mod Proved

@@ -17,6 +17,7 @@ use Rattle.sagebutton.proofs.Demand1.{demand-1}
 use Rattle.sagebutton.proofs.Demand2.{demand-2}
 use Rattle.sagebutton.proofs.Demand3.{demand-3}
 use Rattle.sagebutton.proofs.DrillContradicts.{drill-contradicts}
+use Rattle.sagebutton.proofs.Lies.{lies-are-contradicted}
 use Rattle.sagebutton.proofs.WrongPrograms.{wrong-programs-rejected}
 
 pub proved : Proved
@@ -24,6 +25,7 @@ proved = record {
   demand-1 = demand-1;
   demand-2 = demand-2;
   demand-3 = demand-3;
+  lies-are-contradicted = lies-are-contradicted;
   demand-2-for-any = theory2.demand-2;
   demand-3-for-any = theory3.demand-3;
   verdicts-tell-paths = theory3.verdicts-tell-paths;

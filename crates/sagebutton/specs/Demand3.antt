@@ -21,8 +21,8 @@ use Rattle.codes.specs.Code.{key-of}
 use Rattle.tree.specs.Edition.{width}
 use Rattle.attestation.specs.Verify.{Verified}
 use Rattle.extractor.specs.Extract.{Extracted}
-use Rattle.examples.specs.F.{code-3-4}
-use Rattle.examples.specs.Values.{number-16401}
+use Rattle.examples.specs.F.{code-1-1, code-3-4}
+use Rattle.examples.specs.Values.{number}
 
 -- Anyone can check that two records have the same label by `hash`: it accepts each, and of the 32 octets that it leaves of each, what
 -- the profile keeps is equal. The full profile keeps them all.
@@ -52,10 +52,13 @@ Demand-3 =
     → (out₁ out₂ : Octets) → length out₁ ≡ 85 → length out₂ ≡ 85
     → (r : Answer) (out₁′ out₂′ : Octets) → Extracted profile x d a b out₁ out₂ r out₁′ out₂′ → Collides profile x a b r out₁′ out₂′
 
--- There are such contradictions in the drill, so demand 3 does not speak of nothing: `docs/DRILL.md`'s, for the number 16,401 as a key,
--- under the digest of the list of 3-4 alone. It is absent by the attestation that is issued there, and present by the one issued under
--- the list of the number alone, whose digest is the same.
-abbrev pub Drill-contradicts : Type 0
-Drill-contradicts =
-    Contradict drill number-16401 (digest (label drill) (key-of code-3-4 ∷ []))
-    (attestation (label drill) (key-of code-3-4 ∷ []) number-16401) (attestation (label drill) (number-16401 ∷ []) number-16401)
+-- the number n as a key is judged both ways in the drill under the digest of the list of k alone: absent by the attestation that is
+-- issued there, present by the one that is issued under the list of the number alone
+abbrev pub Contradicts-in-drill : Octets → ℕ → Type 0
+Contradicts-in-drill k n =
+    Contradict drill (number n) (digest (label drill) (k ∷ [])) (attestation (label drill) (k ∷ []) (number n)) (attestation (label drill) (number n ∷ []) (number n))
+
+-- There are such contradictions, so demand 3 does not speak of nothing: that of `docs/DRILL.md`, and another.
+pub record Drill-contradicts : Type 0 where
+  pub of-3-4 : Contradicts-in-drill (key-of code-3-4) 16401
+  pub of-1-1 : Contradicts-in-drill (key-of code-1-1) 78159

@@ -6,5 +6,6 @@ pub mod Profiles
 pub mod Demand1
 pub mod Demand2
 pub mod Demand3
+pub mod Lies
 pub mod WrongPrograms
 pub mod Proved

@@ -23,6 +23,7 @@ use Rattle.sagebutton.specs.Profiles.{Profiles}
 use Rattle.sagebutton.specs.Demand1.{Demand-1}
 use Rattle.sagebutton.specs.Demand2.{Demand-2}
 use Rattle.sagebutton.specs.Demand3.{Demand-3, Drill-contradicts}
+use Rattle.sagebutton.specs.Lies.{Lies-are-contradicted}
 use Rattle.sagebutton.specs.WrongPrograms.{Wrong-programs-rejected}
 
 pub record Proved : Type 0 where
@@ -30,6 +31,8 @@ pub record Proved : Type 0 where
   pub demand-1 : Demand-1
   pub demand-2 : Demand-2
   pub demand-3 : Demand-3
+  -- what 2 and 3 say together of a stranger's attestation
+  pub lies-are-contradicted : Lies-are-contradicted
   -- demands 2 and 3 over any function from node records to labels and entries of any width; and that verdicts which differ are of
   -- paths which differ
   pub demand-2-for-any : (H : Octets → Octets) (w most : ℕ) → theory2.Demand-2 H w most

@@ -110,10 +110,11 @@ Refuses-two profile x d a b = (out₁ out₂ : Octets) → length out₁ ≡ 85 
 abbrev pub Leaves-buffers : ℕ → Octets → Octets → Octets → Octets → Type 0
 Leaves-buffers profile x d a b = (out₁ out₂ : Octets) → length out₁ ≡ 85 → length out₂ ≡ 85 → (r : Answer) × Extracted profile x d a b out₁ out₂ r out₁ out₂
 
--- "or shows one stored pair to everyone": r and s
+-- "or shows one stored pair to everyone": r and s, in either order
 abbrev pub Shows-one-pair : ℕ → Octets → Octets → Type 0
 Shows-one-pair profile r s = (x d a b : Octets) → Contradict profile x d a b
-    → (out₁ out₂ : Octets) → length out₁ ≡ 85 → length out₂ ≡ 85 → (t : Answer) × Extracted profile x d a b out₁ out₂ t r s
+    → (out₁ out₂ : Octets) → length out₁ ≡ 85 → length out₂ ≡ 85
+    → (t : Answer) × (Extracted profile x d a b out₁ out₂ t r s ⊎ Extracted profile x d a b out₁ out₂ t s r)
 
 -- In a profile that is not known every call is refused with 17, and a verifier that refuses all is right; so these ask for a known one.
 -- The verifier that looks at the foot alone is rejected in each, and over any label function it would give a collision. An extractor
