@@ -65,6 +65,6 @@ more-codes = 16
 abbrev pub unknown-profile : ℕ
 unknown-profile = 17
 
--- m is the number of a refusal: from 1 on, since 0 says that there is none, to the last one named here
+-- where a refusal's number lies: from 1 on, since 0 says that there is none, to the last one named here; 15 is not given
 abbrev pub Is-refusal : ℕ → Type 0
 Is-refusal m = (1 ≤ m) × (m ≤ unknown-profile)

@@ -29,7 +29,7 @@ pub record Answers-within (value place : ℕ) (Meets : Answer → Type 0) : Type
   pub done : (n : ℕ) → Meets (Done n) → n ≤ value
   pub refusals : Refusals-within place Refused Meets
 
--- each function's largest answer, and largest place
+-- each function's answers, and the places of its refusals; of attest's 586 `Demand2` says that it is reached
 pub record Bounds : Type 0 where
   -- the octets of a message
   pub hash : (msg out out′ : Octets) → Answers-within 65535 0 (λ r. Hashed msg out r out′)
