@@ -1,7 +1,7 @@
 -- Demand 2 (`docs/PROMISES.md`): of any accepted list and any key of 20 octets, the attestation that is issued is accepted under the
 -- list's digest, as Present if the key is listed and as Absent if it is not. It is stated of what the functions promise, so of what a
--- caller holds in its buffers, and proved in `proofs/Demand2.antt`. 02 (vi): "under one profile number throughout: digest, issue, both verdicts and extractor alike"; `attester`
--- has the same over any function from records to labels.
+-- caller holds in its buffers, and proved in `proofs/Demand2.antt`. 02 (vi): "under one profile number throughout: digest, issue, both
+-- verdicts and extractor alike"; `attester` has the same over any function from records to labels.
 use mathlib.Core.Path.{_≡_}
 use mathlib.Core.Bool.{true, cond}
 use mathlib.Core.List.{List, flatten}

@@ -1,7 +1,8 @@
 -- Demand 3 (`docs/PROMISES.md`): of any key, any digest, even of no list, and any two attestations, whoever made them, one judged
 -- Present and the other Absent, the extractor makes two different node records, one rebuilt from each, with the same hash. It is stated
--- of what the functions promise, so of what a caller holds in its buffers, and proved in `proofs/Demand3.antt`. 02 (vi): the hash is the profile's label, "under one profile number throughout: digest, issue, both verdicts
--- and extractor alike"; `attester` has the same over any function from records to labels.
+-- of what the functions promise, so of what a caller holds in its buffers, and proved in `proofs/Demand3.antt`. 02 (vi): the hash is
+-- the profile's label, "under one profile number throughout: digest, issue, both verdicts and extractor alike"; `attester` has the same
+-- over any function from records to labels.
 use mathlib.Core.Path.{_≡_}
 use mathlib.Core.List.{[], _∷_}
 use mathlib.Core.Logic.{_⊎_}
