@@ -48,6 +48,9 @@ use numbers::Numbers;
 use second::profile::{DRILL, FULL};
 use std::time::Instant;
 
+/// At least so many cases in all: README says more than 1,200,000.
+const CASES: u64 = 1_200_001;
+
 /// At least so many texts are generated, and so many key lists under each profile.
 const TEXTS: u64 = 100_000;
 const KEY_LISTS: u64 = 50_000;
@@ -92,6 +95,8 @@ pub fn run(seed: u64) -> bool {
     at_least(&mut comparison, "cases of an unknown profile", unknown, UNKNOWN);
     drills(&mut comparison);
     section(&mut comparison, "the program digest", digest_program::run);
+    let cases = comparison.cases;
+    at_least(&mut comparison, "cases in all", cases, CASES);
     judge_contradictions(&mut comparison);
     judge_longest(&mut comparison);
     comparison.judge_tally();
