@@ -9,12 +9,17 @@ static const char list[] = "codes\n5\n1-1\n2-7\n3-4\n3-40\nA-2\n";
 static void judge(const char *what, const uint8_t key[20], const uint8_t digest[32], const uint8_t *att, size_t len)
 {
     uint64_t verdict = sagebutton_verify(SAGEBUTTON_FULL, key, 20, digest, 32, att, len);
-    if (sagebutton_is_present(verdict))
+    switch (sagebutton_says(verdict)) {
+    case SAGEBUTTON_SAYS_PRESENT:
         printf("%s: Present\n", what);
-    else if (sagebutton_is_absent(verdict))
+        break;
+    case SAGEBUTTON_SAYS_ABSENT:
         printf("%s: Absent\n", what);
-    else
+        break;
+    case SAGEBUTTON_SAYS_NOTHING: /* neither is shown */
         printf("%s: refused %u %u\n", what, sagebutton_refusal(verdict), (unsigned)sagebutton_value(verdict));
+        break;
+    }
 }
 
 int main(void)
