@@ -8,13 +8,12 @@
  *
  * Keep a result in 64 bits, as a uint64_t: an int takes bits 0 to 31 alone, of which gcc and Clang warn only with -Wconversion, and
  * a refused call then looks accepted, with the place for an answer. As a condition every verdict is true, a refused one too; and not
- * present is not absent, for a refused verdict is neither. Use a switch without a default, so that -Wall reports a forgotten case:
+ * present is not absent, for a refused verdict is neither. So:
  *     uint64_t verdict = sagebutton_verify(SAGEBUTTON_FULL, key, 20, digest, 32, att, att_len);
- *     switch (sagebutton_says(verdict)) {
- *     case SAGEBUTTON_SAYS_PRESENT: listed(); break;
- *     case SAGEBUTTON_SAYS_ABSENT: not_listed(); break;
- *     case SAGEBUTTON_SAYS_NOTHING: nothing_is_shown(sagebutton_refusal(verdict)); break;
- *     }
+ *     if (sagebutton_is_present(verdict)) listed(); else if (sagebutton_is_absent(verdict)) not_listed();
+ *     else nothing_is_shown(sagebutton_refusal(verdict));
+ * or, so that -Wall reports a forgotten case, a switch over sagebutton_says(verdict) without a default, as docs/examples/attestations.c
+ * has it.
  *
  * A key is any 20 octets; a code's key is its 1 to 20 ASCII octets, then zeros. sagebutton_attest and sagebutton_verify do not ask
  * whether a key is a code's: one made of `04-Mar` comes out absent. 60,000 octets hold the keys of every list that is accepted,
