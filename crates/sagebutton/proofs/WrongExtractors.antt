@@ -77,6 +77,14 @@ leaves-buffers profile x d a b c h =
     let r = h zeros zeros zeros-sized zeros-sized in
     demand3.demand-3 profile x d a b c zeros zeros zeros-sized zeros-sized (r .0) zeros zeros (r .1) .differ refl
 
+pub does-nothing : ((x d a b : Octets) → Contradict drill x d a b → Refuses-two drill x d a b ⊎ Leaves-buffers drill x d a b) → ⊥
+does-nothing h =
+    let c = drill-contradicts .of-3-4 in
+    elim (h _ _ _ _ c) [
+      | inl r ↦ refuses-two drill _ _ _ _ c r
+      | inr l ↦ leaves-buffers drill _ _ _ _ c l
+    ]
+
 -- a foot is the path on every level
 down-foot : (i : ℕ) (e : Octets) (l r : Child) → down i (foot e l r) ≡ foot e l r
 unfolding down

@@ -53,7 +53,7 @@ use Rattle.examples.proofs.Box.{F-listing}
 use Rattle.examples.proofs.Values.{values}
 use Rattle.sagebutton.specs.WrongPrograms.{Constant-hash, Issued, Refuses-all, Absent-to-all, Always-6, Writes-no-keys, Another-count, Collision, foot-of, foot-only, Foot-suffices, Foot-verifies, Wrong-programs-rejected}
 use Rattle.sagebutton.proofs.Demand2.{demand-2}
-use Rattle.sagebutton.proofs.WrongExtractors.{extracts-nothing, refuses-two, leaves-buffers, shows-one-pair}
+use Rattle.sagebutton.proofs.WrongExtractors.{extracts-nothing, refuses-two, leaves-buffers, does-nothing, shows-one-pair}
 
 -- a key
 abbrev low : Octets
@@ -293,5 +293,6 @@ wrong-programs-rejected = record {
   extracts-nothing = extracts-nothing;
   refuses-two = refuses-two;
   leaves-buffers = leaves-buffers;
+  does-nothing = does-nothing;
   shows-one-pair = shows-one-pair;
 }

@@ -118,8 +118,9 @@ Shows-one-pair profile r s = (x d a b : Octets) → Contradict profile x d a b
 
 -- In a profile that is not known every call is refused with 17, and a verifier that refuses all is right; so these ask for a known one.
 -- The verifier that looks at the foot alone is rejected in each, and over any label function it would give a collision. An extractor
--- that does nothing with any two attestations that contradict each other is rejected, over any label function and in each profile; that
--- there are such attestations is known of the drill (`Demand3`), so there one that shows a stored pair is rejected too.
+-- that does nothing with any two attestations that contradict each other is rejected, over any label function and in each profile. That
+-- there are such attestations is known of the drill (`Demand3`), so there one that never does anything is rejected without more ado, and
+-- one that shows a stored pair is rejected too.
 pub record Wrong-programs-rejected : Type 0 where
   pub constant-hash : (h : Octets) → Constant-hash h → ⊥
   pub refuses-all : (profile : ℕ) → known profile ≡ true → Refuses-all profile → ⊥
@@ -132,4 +133,5 @@ pub record Wrong-programs-rejected : Type 0 where
   pub extracts-nothing : (H : Octets → Octets) → Labels H → (x d a b : Octets) → Contradictory H x d a b → Extracts-nothing H x d a b → ⊥
   pub refuses-two : (profile : ℕ) (x d a b : Octets) → Contradict profile x d a b → Refuses-two profile x d a b → ⊥
   pub leaves-buffers : (profile : ℕ) (x d a b : Octets) → Contradict profile x d a b → Leaves-buffers profile x d a b → ⊥
+  pub does-nothing : ((x d a b : Octets) → Contradict drill x d a b → Refuses-two drill x d a b ⊎ Leaves-buffers drill x d a b) → ⊥
   pub shows-one-pair : (r s : Octets) → Shows-one-pair drill r s → ⊥
