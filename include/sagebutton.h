@@ -7,8 +7,8 @@
  * A refusal writes nothing. An accepted call writes to the front of its output; octets beyond that stay as they were.
  *
  * Keep a result in 64 bits, as a uint64_t: an int takes bits 0 to 31 alone, of which gcc and Clang warn only with -Wconversion, and
- * a refused call then looks accepted, with the place for an answer. As a condition every verdict is true, a refused one too; and not
- * present is not absent, for a refused verdict is neither. So:
+ * a refused call then looks accepted, with the place for an answer. As a condition every verdict is true, a refused one too, and of
+ * sagebutton_says Absent is; and not present is not absent, for a refused verdict is neither. So:
  *     uint64_t verdict = sagebutton_verify(SAGEBUTTON_FULL, key, 20, digest, 32, att, att_len);
  *     if (sagebutton_is_present(verdict)) listed(); else if (sagebutton_is_absent(verdict)) not_listed();
  *     else nothing_is_shown(sagebutton_refusal(verdict));

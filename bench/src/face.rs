@@ -15,6 +15,7 @@ pub const ABSENT: usize = 65_536;
 #[link(name = "sagebutton", kind = "static")]
 extern "C" {
     pub fn sagebutton_hash(msg: *const u8, msg_len: usize, out: *mut u8, out_len: usize) -> u64;
+    pub fn sagebutton_read_list(text: *const u8, text_len: usize, out: *mut u8, out_len: usize) -> u64;
     pub fn sagebutton_digest(
         profile: u32,
         keys: *const u8,

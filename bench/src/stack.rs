@@ -2,8 +2,8 @@
 //! the deepest octet that is no longer paint is looked for.
 
 use super::face::{
-    sagebutton_attest, sagebutton_digest, sagebutton_drill, sagebutton_extract, sagebutton_verify, DRILL,
-    FULL,
+    sagebutton_attest, sagebutton_digest, sagebutton_drill, sagebutton_extract, sagebutton_hash,
+    sagebutton_read_list, sagebutton_verify, DRILL, FULL,
 };
 use super::ordinary::{contradiction, verdict::last_label};
 use std::arch::asm;
@@ -34,6 +34,8 @@ fn table(keys: &[u8]) -> ExitCode {
     }
     println!("| call | stack, octets |");
     println!("|---|---|");
+    println!("| hash of 65,535 octets | {} |", of_hash());
+    println!("| reading of 3,000 codes | {} |", of_read_list());
     println!("| digest of 3,000 keys | {} |", of_digest(keys));
     println!("| attestation over 3,000 keys | {} |", of_attest(keys));
     println!("| verification of 32 levels, 1,731 octets | {} |", of_verify());
@@ -44,6 +46,17 @@ fn table(keys: &[u8]) -> ExitCode {
 
 extern "C" fn nothing() -> u64 {
     0
+}
+
+fn of_hash() -> usize {
+    let (message, mut output) = ([0x61; 65_535], [0; 32]);
+    taken(call(sagebutton_hash as *const (), &[], &[lent(&message), lent_output(&mut output)]))
+}
+
+fn of_read_list() -> usize {
+    let codes: String = (1_000..4_000).map(|number| format!("1-{number}\n")).collect();
+    let (text, mut output) = (format!("codes\n3000\n{codes}"), [0; 60_000]);
+    taken(call(sagebutton_read_list as *const (), &[], &[lent(text.as_bytes()), lent_output(&mut output)]))
 }
 
 fn of_digest(keys: &[u8]) -> usize {
