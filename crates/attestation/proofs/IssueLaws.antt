@@ -11,8 +11,9 @@ use Rattle.attester.specs.Entry.{entries}
 use Rattle.attester.specs.Record.{Child, Labels, bit, child-octets}
 use Rattle.attester.specs.Tree.{tree}
 use Rattle.attester.specs.Label.{label, digest}
-use Rattle.attester.specs.Path.{foot, step, foot-left, foot-right, height, keys, siblings, Sized}
+use Rattle.attester.specs.Path.{foot, step, foot-left, foot-right, height, keys, siblings}
 use Rattle.attester.specs.Attestation.{optional-octets, render}
+use Rattle.attester.proofs.Sizes.{Sized}
 use Rattle.attester.proofs.EntryLaws.{entries-length, entries-sized}
 use Rattle.attester.proofs.LabelLaws.{label-none, label-bit}
 use Rattle.attester.proofs.LengthLaws.{flatten-append, levels-length, levels-length-is, labels-most, render-levels}

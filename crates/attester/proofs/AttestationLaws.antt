@@ -10,16 +10,17 @@ use Rattle.octets.specs.Order.{Octets, same}
 use Rattle.octets.proofs.OrderLaws.{order-flip, order-refl, same-true}
 use Rattle.attester.specs.Entry.{key}
 use Rattle.attester.specs.Record.{child-octets}
-use Rattle.attester.specs.Tree.{Tree, tree, inorder}
+use Rattle.attester.specs.Tree.{Tree, tree}
 use Rattle.attester.specs.Label.{label, digest}
 use Rattle.attester.specs.Depth.{bit-length}
 use Rattle.attester.specs.Listing.{Below, Each, Ascending, Listing}
-use Rattle.attester.specs.Path.{Path, foot-entry, height, Sized}
+use Rattle.attester.specs.Path.{Path, foot-entry, height}
 use Rattle.attester.specs.Verdict.{side, root-record}
 use Rattle.attester.specs.Form.{formed, form}
 use Rattle.attester.specs.Search.{search, listed}
 use Rattle.attester.specs.Attestation.{render, attestation}
-use Rattle.attester.proofs.TreeLaws.{inorder-of-tree}
+use Rattle.attester.proofs.Sizes.{Sized}
+use Rattle.attester.proofs.TreeLaws.{inorder, inorder-of-tree}
 use Rattle.attester.proofs.DepthLaws.{depth-of-tree, depth-most}
 use Rattle.attester.proofs.ListingLaws.{each-left, each-right, ascending-parted}
 use Rattle.attester.proofs.FormLaws.{form-of-render}

@@ -10,11 +10,12 @@ use borrow.Author.Tests.{leb-true, le-leb, eq-eqb, eqb-true}
 use lib.Dec.{leb, eqb}
 use lib.ListN.{length, length-append}
 use Rattle.octets.specs.Order.{Octets}
-use Rattle.attester.specs.Record.{Child, Labelled}
-use Rattle.attester.specs.Path.{Path, foot, foot-left, foot-right, height, keys, siblings, Sized}
+use Rattle.attester.specs.Record.{Child}
+use Rattle.attester.specs.Path.{Path, foot, foot-left, foot-right, height, keys, siblings}
 use Rattle.attester.specs.Reader.{short, wrong, Read, got, stopped, give, octet, block, many, close}
 use Rattle.attester.specs.Form.{announced, optional, climb, path-of, is-count, sections, formed, spoilt, placed, form}
 use Rattle.attester.specs.Attestation.{optional-octets, render}
+use Rattle.attester.proofs.Sizes.{Labelled, Sized}
 use Rattle.attester.proofs.ReaderLaws.{All, went, octet-back, octet-only, close-only, Inverse, block-inverse, many-back, many-only}
 use Rattle.attester.proofs.PathLaws.{keys-length, siblings-length, throughout-keys, throughout-siblings, sized-left, sized-right, path-of-sections, keys-climb, siblings-climb, foot-left-climb, foot-right-climb, sized-climb}
 

@@ -6,9 +6,10 @@ use Prim.Native.Nat.{ℕ, suc, _-_, _*_, _/_, _<_}
 use lib.ListN.{length, take, drop, replicate}
 use Rattle.octets.specs.Order.{Octets}
 use Rattle.attester.specs.Entry.{entries}
-use Rattle.attester.specs.Record.{Labelled, bit, child-octets, node-record}
+use Rattle.attester.specs.Record.{bit, child-octets, node-record}
 use Rattle.attester.specs.Tree.{Tree, leaf, node, tree}
 use Rattle.attester.specs.Label.{label, digest}
+use Rattle.attester.proofs.Sizes.{Labelled}
 use Rattle.attester.proofs.RecordLaws.{child-octets-length}
 use Rattle.attester.proofs.TreeLaws.{tree-none, tree-node, tree-of-entries}
 

@@ -11,11 +11,12 @@ use lib.ListN.{length, take, drop, getD, length-drop}
 use lib.Seq.{drop-drop}
 use Rattle.octets.specs.Order.{Octets}
 use Rattle.attester.specs.Entry.{entries}
-use Rattle.attester.specs.Record.{Child, Labelled}
+use Rattle.attester.specs.Record.{Child}
 use Rattle.attester.specs.Path.{Path, foot, step, top, height, down}
 use Rattle.attester.specs.Reader.{got, block, many}
 use Rattle.attester.specs.Form.{optional, climb, path-of, is-count, sections, formed, form}
 use Rattle.attester.specs.Attestation.{optional-octets}
+use Rattle.attester.proofs.Sizes.{Labelled}
 use Rattle.attester.proofs.EntryLaws.{entries-length}
 use Rattle.attester.proofs.ReaderLaws.{went, octet-only, close-only, many-first, many-only}
 use Rattle.attester.proofs.OffsetLaws.{blocks-at, blocks-end, Optional-at, optional-at}

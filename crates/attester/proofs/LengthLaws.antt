@@ -6,9 +6,10 @@ use Prim.Native.Nat.{ℕ, suc, _+_, _*_, _≤_}
 use native.Mathlib.Omega.{arith}
 use lib.ListN.{length, length-append}
 use Rattle.octets.specs.Order.{Octets}
-use Rattle.attester.specs.Record.{Child, Labelled, bit}
-use Rattle.attester.specs.Path.{Path, foot, step, foot-left, foot-right, height, keys, siblings, Sized}
+use Rattle.attester.specs.Record.{Child, bit}
+use Rattle.attester.specs.Path.{Path, foot, step, foot-left, foot-right, height, keys, siblings}
 use Rattle.attester.specs.Attestation.{optional-octets, render}
+use Rattle.attester.proofs.Sizes.{Labelled, Sized}
 use Rattle.attester.proofs.RecordLaws.{bit-most}
 use Rattle.attester.proofs.PathLaws.{sized-left, sized-right}
 

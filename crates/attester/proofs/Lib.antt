@@ -1,3 +1,4 @@
+pub mod Sizes
 pub mod EntryLaws
 pub mod RecordLaws
 pub mod TreeLaws

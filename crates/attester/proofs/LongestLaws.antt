@@ -9,14 +9,14 @@ use native.Mathlib.Omega.{arith}
 use lib.ListN.{length, take, drop, length-append, length-take, length-drop}
 use Rattle.octets.specs.Order.{Octets}
 use Rattle.attester.specs.Record.{bit}
-use Rattle.attester.specs.Tree.{Tree, leaf, node, tree, inorder}
+use Rattle.attester.specs.Tree.{Tree, leaf, node, tree}
 use Rattle.attester.specs.Label.{label}
 use Rattle.attester.specs.Listing.{Listing}
 use Rattle.attester.specs.Path.{Path, height}
 use Rattle.attester.specs.Form.{formed, form}
 use Rattle.attester.specs.Search.{search}
 use Rattle.attester.specs.Attestation.{attestation}
-use Rattle.attester.proofs.TreeLaws.{tree-none, tree-node, inorder-of-tree}
+use Rattle.attester.proofs.TreeLaws.{inorder, tree-none, tree-node, inorder-of-tree}
 use Rattle.attester.proofs.RecordLaws.{bit-most}
 use Rattle.attester.proofs.FormLaws.{form-rendered}
 use Rattle.attester.proofs.SearchLaws.{Found, hit, end-left, end-right, go-left, go-right}

@@ -9,9 +9,10 @@ use Rattle.attester.specs.Record.{Child}
 use Rattle.attester.specs.Tree.{Tree, leaf, node, tree}
 use Rattle.attester.specs.Label.{label}
 use Rattle.attester.specs.Listing.{Each}
-use Rattle.attester.specs.Path.{Path, foot-left, foot-right, height, keys, siblings, Throughout}
+use Rattle.attester.specs.Path.{Path, foot-left, foot-right, height, keys, siblings}
 use Rattle.attester.specs.Search.{search}
 use Rattle.attester.specs.Attestation.{optional-octets, render}
+use Rattle.attester.proofs.Sizes.{Throughout}
 use Rattle.attester.proofs.ReaderLaws.{All}
 use Rattle.attester.proofs.TreeLaws.{inorder-of-tree}
 use Rattle.attester.proofs.PathLaws.{throughout-keys, throughout-siblings, throughout-left, throughout-right}

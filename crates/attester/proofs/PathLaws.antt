@@ -5,9 +5,10 @@ use Prim.Native.Nat.{ℕ, suc}
 use native.Mathlib.Omega.{arith}
 use lib.ListN.{length, length-append}
 use Rattle.octets.specs.Order.{Octets}
-use Rattle.attester.specs.Record.{Child, Labelled}
-use Rattle.attester.specs.Path.{Path, foot, step, foot-entry, foot-left, foot-right, height, keys, siblings, Throughout, Sized}
+use Rattle.attester.specs.Record.{Child}
+use Rattle.attester.specs.Path.{Path, foot, step, foot-entry, foot-left, foot-right, height, keys, siblings}
 use Rattle.attester.specs.Form.{climb, path-of}
+use Rattle.attester.proofs.Sizes.{Labelled, Throughout, Sized}
 use Rattle.attester.proofs.ReaderLaws.{All, all-append}
 
 pub keys-length : (p : Path) → length (keys p) ≡ suc (height p)

@@ -18,10 +18,11 @@ use Rattle.attester.specs.Record.{Child, bit}
 use Rattle.attester.specs.Tree.{tree}
 use Rattle.attester.specs.Label.{label}
 use Rattle.attester.specs.Listing.{Ascending}
-use Rattle.attester.specs.Path.{Path, foot, step, top, foot-entry, height, Sized}
+use Rattle.attester.specs.Path.{Path, foot, step, top, foot-entry, height}
 use Rattle.attester.specs.Verdict.{side, child-there, hidden, fault}
 use Rattle.attester.specs.Search.{search}
 use Rattle.attester.specs.Attestation.{optional-octets}
+use Rattle.attester.proofs.Sizes.{Sized}
 use Rattle.attester.proofs.TreeLaws.{tree-node}
 use Rattle.attester.proofs.LabelLaws.{label-none, label-bit}
 use Rattle.attester.proofs.ListingLaws.{ascending-at, ascending-take}

@@ -8,7 +8,8 @@ use native.Mathlib.Omega.{arith}
 use lib.ListN.{length, take, drop, length-append, length-replicate}
 use lib.Seq.{take-at, drop-at}
 use Rattle.octets.specs.Order.{Octets}
-use Rattle.attester.specs.Record.{Child, Labelled, bit, flag, child-octets, node-record}
+use Rattle.attester.specs.Record.{Child, bit, flag, child-octets, node-record}
+use Rattle.attester.proofs.Sizes.{Labelled}
 
 pub child-octets-length : (c : Child) → Labelled c → length (child-octets c) ≡ 32
 unfolding child-octets

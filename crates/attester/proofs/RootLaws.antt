@@ -7,9 +7,10 @@ use Prim.Native.Nat.{ℕ, zero, suc, Ordering, Ordering·lt, Ordering·eq, Order
 use native.Mathlib.Omega.{arith}
 use lib.ListN.{length}
 use Rattle.octets.specs.Order.{Octets}
-use Rattle.attester.specs.Record.{Child, Labelled, node-record, record-size}
-use Rattle.attester.specs.Path.{Path, foot, step, foot-entry, foot-left, foot-right, Sized, down}
+use Rattle.attester.specs.Record.{Child, node-record, record-size}
+use Rattle.attester.specs.Path.{Path, foot, step, foot-entry, foot-left, foot-right, down}
 use Rattle.attester.specs.Verdict.{side, child-there, hidden, fault, join, root-record}
+use Rattle.attester.proofs.Sizes.{Labelled, Sized}
 use Rattle.attester.proofs.RecordLaws.{record-length, record-injective}
 use Rattle.attester.proofs.VerdictLaws.{side-same-eq, fault-below}
 

@@ -10,14 +10,16 @@ use lib.ListN.{length}
 use Rattle.octets.specs.Order.{Octets, order, same}
 use Rattle.octets.proofs.OrderLaws.{order-flip, order-trans}
 use Rattle.attester.specs.Entry.{key}
-use Rattle.attester.specs.Record.{Child, Labelled}
-use Rattle.attester.specs.Tree.{Tree, leaf, node, inorder}
+use Rattle.attester.specs.Record.{Child}
+use Rattle.attester.specs.Tree.{Tree, leaf, node}
 use Rattle.attester.specs.Label.{label}
 use Rattle.attester.specs.Depth.{depth}
 use Rattle.attester.specs.Listing.{Below, Each, Ascending}
-use Rattle.attester.specs.Path.{Path, foot, step, top, foot-entry, foot-left, foot-right, height, Throughout, Sized}
+use Rattle.attester.specs.Path.{Path, foot, step, top, foot-entry, foot-left, foot-right, height}
 use Rattle.attester.specs.Verdict.{side, child-there, hidden, fault, join, root-record}
 use Rattle.attester.specs.Search.{turn, onward, search, listed}
+use Rattle.attester.proofs.Sizes.{Labelled, Throughout, Sized}
+use Rattle.attester.proofs.TreeLaws.{inorder}
 use Rattle.attester.proofs.LabelLaws.{label-labelled}
 use Rattle.attester.proofs.ListingLaws.{each-map, each-left, each-right, ascending-parted}
 use Rattle.attester.proofs.SearchStepLaws.{Grown, search-hit, search-end-left, search-end-right, search-left, search-right}

@@ -1,7 +1,7 @@
 -- The tree's own equations, free of the bound in its definition (any bound that is large enough gives the same tree),
 -- and that its entries from left to right are the list.
 use mathlib.Core.Path.{_≡_, refl}
-use mathlib.Core.List.{List, [], _∷_}
+use mathlib.Core.List.{List, [], _∷_, _++_}
 use Prim.Native.Nat.{ℕ, zero, suc, _-_, _*_, _/_, _≤_, _<_}
 use native.Mathlib.Nat.{not-suc-le-zero, le-refl}
 use native.Mathlib.Omega.{arith}
@@ -9,8 +9,13 @@ use lib.ListN.{length, take, drop, getD, length-take, length-drop}
 use lib.Seq.{split-at}
 use Rattle.octets.specs.Order.{Octets}
 use Rattle.attester.specs.Entry.{entries}
-use Rattle.attester.specs.Tree.{leaf, node, tree-within, tree, inorder}
+use Rattle.attester.specs.Tree.{Tree, leaf, node, tree-within, tree}
 use Rattle.attester.proofs.EntryLaws.{entries-length, entries-take, entries-drop, entries-at}
+
+-- the entries from left to right
+unfoldable pub inorder : Tree → List Octets
+inorder leaf = []
+inorder (node l e r) = inorder l ++ e ∷ inorder r
 
 within-enough : (d d′ : ℕ) (es : List Octets) → length es ≤ d → length es ≤ d′ → tree-within d es ≡ tree-within d′ es
 unfolding tree-within

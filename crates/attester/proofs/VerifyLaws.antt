@@ -7,11 +7,12 @@ use lib.Dec.{eqb}
 use lib.ListN.{length}
 use Rattle.answer.specs.Refusals as refusal
 use Rattle.octets.specs.Order.{Octets}
-use Rattle.attester.specs.Path.{Path, height, Sized}
+use Rattle.attester.specs.Path.{Path, height}
 use Rattle.attester.specs.Verdict.{refused, Accepted, judge}
 use Rattle.attester.specs.Form.{Form, formed, ended, spoilt, form}
 use Rattle.attester.specs.Attestation.{render}
 use Rattle.attester.specs.Verify.{judged, verify}
+use Rattle.attester.proofs.Sizes.{Sized}
 use Rattle.attester.proofs.FormLaws.{and-both, Rendered, form-rendered, form-of-render}
 
 module _ (H : Octets → Octets) (w : ℕ) (x d a : Octets) where

@@ -1,10 +1,8 @@
 -- The path that an attestation shows (01, "The attestation"), with the root outermost.
-use mathlib.Core.Path.{_≡_}
 use mathlib.Core.List.{List, [], _∷_, _++_}
 use Prim.Native.Nat.{ℕ, zero, suc}
-use lib.ListN.{length}
 use Rattle.octets.specs.Order.{Octets}
-use Rattle.attester.specs.Record.{Child, Labelled}
+use Rattle.attester.specs.Record.{Child}
 
 -- 01: the foot, its entry between its two children; or a node above it: its entry, "the child off the path", the path below
 pub data Path : Type 0 where
@@ -45,15 +43,6 @@ keys (step e s p) = keys p ++ (e ∷ [])
 unfoldable pub siblings : Path → List Child
 siblings (foot e l r) = []
 siblings (step e s p) = siblings p ++ (s ∷ [])
-
--- P holds of each entry, and Q of each child
-abbrev pub Throughout : (Octets → Type 0) → (Child → Type 0) → Path → Type 0
-Throughout P Q (foot e l r) = P e × Q l × Q r
-Throughout P Q (step e s p) = P e × Q s × Throughout P Q p
-
--- 01: each entry has w octets, and each label 32
-abbrev pub Sized : ℕ → Path → Type 0
-Sized w = Throughout (λ e. length e ≡ w) Labelled
 
 -- 01, "Extractor", "from the root downward, level by level": the path that is left i levels below the root
 unfoldable pub down : ℕ → Path → Path

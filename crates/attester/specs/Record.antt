@@ -10,11 +10,6 @@ use Rattle.octets.specs.Order.{Octets}
 abbrev pub Child : Type 0
 Child = Option Octets
 
--- 01: a label has 32 octets
-abbrev pub Labelled : Child → Type 0
-Labelled none = Unit {0}
-Labelled (some l) = length l ≡ 32
-
 -- H gives labels: 32 octets for whatever it is given
 abbrev pub Labels : (Octets → Octets) → Type 0
 Labels H = (r : Octets) → length (H r) ≡ 32

@@ -1,5 +1,5 @@
 -- The tree of a list (01, "Tree, node record, digest").
-use mathlib.Core.List.{List, [], _∷_, _++_}
+use mathlib.Core.List.{List, [], _∷_}
 use Prim.Native.Nat.{ℕ, zero, suc, _/_}
 use lib.ListN.{length, take, drop, getD}
 use Rattle.octets.specs.Order.{Octets}
@@ -23,8 +23,3 @@ tree-within (suc d) (e ∷ es) =
 unfoldable pub tree : List Octets → Tree
 unfolding tree-within
 tree es = tree-within (length es) es
-
--- the entries from left to right
-unfoldable pub inorder : Tree → List Octets
-inorder leaf = []
-inorder (node l e r) = inorder l ++ e ∷ inorder r
