@@ -8,6 +8,6 @@ use Rattle.answer.specs.declared.Answer.TheVariants.{Done}
 use Rattle.answer.specs.Answer.{written}
 
 -- what is as long as the buffer fills it
-pub written-whole : (n : ℕ) (s out : List ℕ) → length s ≡ length out → written (Done n) s out ≡ s
+pub written_whole : (n : ℕ) (s out : List ℕ) → length s ≡ length out → written (Done n) s out ≡ s
 unfolding written
-written-whole n s out e = rw (e, drop-length out) (append-nil s)
+written_whole n s out e = rw (e, drop-length out) (append-nil s)

@@ -25,24 +25,24 @@ written (Done n) s out = s ++ drop (length s) out
 written (Refused m p) s out = out
 
 -- 01, "Verdict": a refusal's number; 0 where the attestation is accepted
-abbrev pub verdict-number : Verdict → ℕ
-verdict-number verdict.Present = 0
-verdict-number verdict.Absent = 0
-verdict-number (verdict.Refused m p) = m
+abbrev pub verdict_number : Verdict → ℕ
+verdict_number verdict.Present = 0
+verdict_number verdict.Absent = 0
+verdict_number (verdict.Refused m p) = m
 
 -- the numbers of the two verdicts: above every place that a refused one can have, 1,731 at most
-abbrev pub present-number : ℕ
-present-number = 65537
+abbrev pub present_number : ℕ
+present_number = 65537
 
-abbrev pub absent-number : ℕ
-absent-number = 65536
+abbrev pub absent_number : ℕ
+absent_number = 65536
 
 -- 01, "Verdict", step 6: Present or Absent, by its number; or the refusal's place
-abbrev pub verdict-value : Verdict → ℕ
-verdict-value verdict.Present = present-number
-verdict-value verdict.Absent = absent-number
-verdict-value (verdict.Refused m p) = p
+abbrev pub verdict_value : Verdict → ℕ
+verdict_value verdict.Present = present_number
+verdict_value verdict.Absent = absent_number
+verdict_value (verdict.Refused m p) = p
 
 -- the C face's one number, as for an answer
-abbrev pub verdict-packed : Verdict → ℕ
-verdict-packed v = verdict-number v * 2 ^ 48 + verdict-value v
+abbrev pub verdict_packed : Verdict → ℕ
+verdict_packed v = verdict_number v * 2 ^ 48 + verdict_value v

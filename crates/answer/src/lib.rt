@@ -1,6 +1,6 @@
 // The answers that a caller can meet, and the number that stands for one where a plain number must do.
 ghost use Rattle.std.specs.Prelude.{◌≡◌};
-ghost use Rattle.answer.specs.Answer.{packed, verdict-packed};
+ghost use Rattle.answer.specs.Answer.{packed, verdict_packed};
 
 // The refusals by name: 01, "Numbers a caller can meet", and 02.
 pub const SIZE: u16 = 1;
@@ -69,7 +69,7 @@ pub fn pack(a: Answer) -> u64
 
 // The verdict as one number, for callers in other languages.
 pub fn pack_verdict(v: Verdict) -> u64
-    ensures { result ≡ verdict-packed v }
+    ensures { result ≡ verdict_packed v }
 {
     match v {
         Verdict::Present => PRESENT,

@@ -17,110 +17,110 @@ use Rattle.attester.specs.Label.{label}
 use Rattle.attester.specs.Verdict.{side}
 use Rattle.attester.specs.Path.{foot, step}
 use Rattle.attester.specs.Search.{search}
-use Rattle.attester.proofs.EntryLaws.{entries-front}
-use Rattle.attester.proofs.LabelLaws.{label-none}
-use Rattle.attester.proofs.SearchStepLaws.{search-entries-hit, search-entries-end-left, search-entries-end-right, search-entries-left, search-entries-right}
-use Rattle.attestation.specs.Parts.{Keyed, middle-at, middle-key, by_side, onward-part, aside-part, child-of, path-in}
+use Rattle.attester.proofs.EntryLaws.{entries_front}
+use Rattle.attester.proofs.LabelLaws.{label_none}
+use Rattle.attester.proofs.SearchStepLaws.{search_entries_hit, search_entries_end_left, search_entries_end_right, search_entries_left, search_entries_right}
+use Rattle.attestation.specs.Parts.{Keyed, middle_at, middle_key, by_side, onward_part, aside_part, child_of, path_in}
 
 -- the part that is told by the comparison with the middle key
-module _ (x s : Octets) {m : Octets} {r : Order} (o : Order) (is : r ≡ o) (compared : order_of r ≡ order x m) (middle : m ≡ middle-key s) where
-  told : order x (middle-key s) ≡ order_of o
+module _ (x s : Octets) {m : Octets} {r : Order} (o : Order) (is : r ≡ o) (compared : order_of r ≡ order x m) (middle : m ≡ middle_key s) where
+  told : order x (middle_key s) ≡ order_of o
   told = ap (order x) (sym middle) ∙ sym compared ∙ ap order_of is
 
-  pub onward-is : by_side (order_of o) (take (middle-at s) s) [] (drop (middle-at s + 20) s) ≡ onward-part x s
-  unfolding onward-part
-  onward-is = rw told
+  pub onward_is : by_side (order_of o) (take (middle_at s) s) [] (drop (middle_at s + 20) s) ≡ onward_part x s
+  unfolding onward_part
+  onward_is = rw told
 
-  pub aside-is : by_side (order_of o) (drop (middle-at s + 20) s) [] (take (middle-at s) s) ≡ aside-part x s
-  unfolding aside-part
-  aside-is = rw told
+  pub aside_is : by_side (order_of o) (drop (middle_at s + 20) s) [] (take (middle_at s) s) ≡ aside_part x s
+  unfolding aside_part
+  aside_is = rw told
 
 module _ (s : Octets) (k : Keyed s) where
   -- the left part holds floor(n / 2) keys, the right part those after the middle one
-  left-length : length (take (middle-at s) s) ≡ 20 * (length s / 20 / 2)
-  unfolding middle-at
-  left-length = length-take-le (20 * (length s / 20 / 2)) s (omega (arith, k.some_key))
+  left_length : length (take (middle_at s) s) ≡ 20 * (length s / 20 / 2)
+  unfolding middle_at
+  left_length = length-take-le (20 * (length s / 20 / 2)) s (omega (arith, k.some_key))
 
-  left-entries : entries 20 (length (take (middle-at s) s) / 20) (take (middle-at s) s) ≡ entries 20 (length s / 20 / 2) s
-  unfolding middle-at
-  left-entries =
-      let n : length (take (20 * (length s / 20 / 2)) s) / 20 ≡ length s / 20 / 2 = omega (arith, left-length) in
-      rw n (entries-front 20 (length s / 20 / 2) (20 * (length s / 20 / 2)) s (omega arith))
+  left_entries : entries 20 (length (take (middle_at s) s) / 20) (take (middle_at s) s) ≡ entries 20 (length s / 20 / 2) s
+  unfolding middle_at
+  left_entries =
+      let n : length (take (20 * (length s / 20 / 2)) s) / 20 ≡ length s / 20 / 2 = omega (arith, left_length) in
+      rw n (entries_front 20 (length s / 20 / 2) (20 * (length s / 20 / 2)) s (omega arith))
 
-  right-length : length (drop (middle-at s + 20) s) ≡ length s - (20 * (length s / 20 / 2) + 20)
-  unfolding middle-at
-  right-length = length-drop (20 * (length s / 20 / 2) + 20) s
+  right_length : length (drop (middle_at s + 20) s) ≡ length s - (20 * (length s / 20 / 2) + 20)
+  unfolding middle_at
+  right_length = length-drop (20 * (length s / 20 / 2) + 20) s
 
-  right-entries : entries 20 (length (drop (middle-at s + 20) s) / 20) (drop (middle-at s + 20) s)
+  right_entries : entries 20 (length (drop (middle_at s + 20) s) / 20) (drop (middle_at s + 20) s)
       ≡ entries 20 (length s / 20 - suc (length s / 20 / 2)) (drop (suc (length s / 20 / 2) * 20) s)
-  unfolding middle-at
-  right-entries =
-      let n : length (drop (20 * (length s / 20 / 2) + 20) s) / 20 ≡ length s / 20 - suc (length s / 20 / 2) = omega (arith, right-length, k.whole, k.some_key) in
+  unfolding middle_at
+  right_entries =
+      let n : length (drop (20 * (length s / 20 / 2) + 20) s) / 20 ≡ length s / 20 - suc (length s / 20 / 2) = omega (arith, right_length, k.whole, k.some_key) in
       let m : 20 * (length s / 20 / 2) + 20 ≡ suc (length s / 20 / 2) * 20 = omega arith in
       rw (n, m)
 
-  left-child : (H : Octets → Octets) → child-of H (take (middle-at s) s) ≡ label H (tree (entries 20 (length s / 20 / 2) s))
-  unfolding child-of
-  left-child H = rw left-entries
+  left_child : (H : Octets → Octets) → child_of H (take (middle_at s) s) ≡ label H (tree (entries 20 (length s / 20 / 2) s))
+  unfolding child_of
+  left_child H = rw left_entries
 
-  right_child : (H : Octets → Octets) → child-of H (drop (middle-at s + 20) s) ≡ label H (tree (entries 20 (length s / 20 - suc (length s / 20 / 2)) (drop (suc (length s / 20 / 2) * 20) s)))
-  unfolding child-of
-  right_child H = rw right-entries
+  right_child : (H : Octets → Octets) → child_of H (drop (middle_at s + 20) s) ≡ label H (tree (entries 20 (length s / 20 - suc (length s / 20 / 2)) (drop (suc (length s / 20 / 2) * 20) s)))
+  unfolding child_of
+  right_child H = rw right_entries
 
-  middle-is : middle-key s ≡ take 20 (drop (length s / 20 / 2 * 20) s)
-  unfolding middle-at
-  middle-is = let m : 20 * (length s / 20 / 2) ≡ length s / 20 / 2 * 20 = omega arith in rw m
+  middle_is : middle_key s ≡ take 20 (drop (length s / 20 / 2 * 20) s)
+  unfolding middle_at
+  middle_is = let m : 20 * (length s / 20 / 2) ≡ length s / 20 / 2 * 20 = omega arith in rw m
 
-  some-entry : 0 < length s / 20
-  some-entry = omega (arith, k.some_key)
+  some_entry : 0 < length s / 20
+  some_entry = omega (arith, k.some_key)
 
   module _ (x : Octets) where
-    middle-side : (o : Ordering) → order x (middle-key s) ≡ o → side x (take 20 (drop (length s / 20 / 2 * 20) s)) ≡ o
+    middle_side : (o : Ordering) → order x (middle_key s) ≡ o → side x (take 20 (drop (length s / 20 / 2 * 20) s)) ≡ o
     unfolding side key
-    middle-side o e = rw (take-take 20 20 (drop (length s / 20 / 2 * 20) s) (le_refl _), ← middle-is) e
+    middle_side o e = rw (take-take 20 20 (drop (length s / 20 / 2 * 20) s) (le_refl _), ← middle_is) e
 
     -- the search ends where no keys are left on x's side
-    pub path-here : (H : Octets → Octets) → length (onward-part x s) < 20 → path-in H x s ≡ foot (middle-key s) (child-of H (take (middle-at s) s)) (child-of H (drop (middle-at s + 20) s))
-    unfolding path-in onward-part entries
-    path-here H h = go (order x (middle-key s)) refl h
+    pub path_here : (H : Octets → Octets) → length (onward_part x s) < 20 → path_in H x s ≡ foot (middle_key s) (child_of H (take (middle_at s) s)) (child_of H (drop (middle_at s + 20) s))
+    unfolding path_in onward_part entries
+    path_here H h = go (order x (middle_key s)) refl h
       where
-        go : (o : Ordering) → order x (middle-key s) ≡ o → length (by_side o (take (middle-at s) s) [] (drop (middle-at s + 20) s)) < 20
-            → search H x (tree (entries 20 (length s / 20) s)) ≡ foot (middle-key s) (child-of H (take (middle-at s) s)) (child-of H (drop (middle-at s + 20) s))
+        go : (o : Ordering) → order x (middle_key s) ≡ o → length (by_side o (take (middle_at s) s) [] (drop (middle_at s + 20) s)) < 20
+            → search H x (tree (entries 20 (length s / 20) s)) ≡ foot (middle_key s) (child_of H (take (middle_at s) s)) (child_of H (drop (middle_at s + 20) s))
         go Ordering.lt e g =
-            let z : length s / 20 / 2 ≡ 0 = omega (arith, left-length) in
-            let n : label H (tree (entries 20 (length s / 20 / 2) s)) ≡ none = rw z (label-none H) in
-            rw (middle-is, left-child H, right_child H, n) (search-entries-end-left H x 20 (length s / 20) s some-entry (middle-side Ordering.lt e) z)
+            let z : length s / 20 / 2 ≡ 0 = omega (arith, left_length) in
+            let n : label H (tree (entries 20 (length s / 20 / 2) s)) ≡ none = rw z (label_none H) in
+            rw (middle_is, left_child H, right_child H, n) (search_entries_end_left H x 20 (length s / 20) s some_entry (middle_side Ordering.lt e) z)
         go Ordering.eq e g =
-            rw (middle-is, left-child H, right_child H) (search-entries-hit H x 20 (length s / 20) s some-entry (middle-side Ordering.eq e))
+            rw (middle_is, left_child H, right_child H) (search_entries_hit H x 20 (length s / 20) s some_entry (middle_side Ordering.eq e))
         go Ordering.gt e g =
-            let z : length s / 20 - suc (length s / 20 / 2) ≡ 0 = omega (arith, right-length, k.whole) in
-            let n : label H (tree (entries 20 (length s / 20 - suc (length s / 20 / 2)) (drop (suc (length s / 20 / 2) * 20) s))) ≡ none = rw z (label-none H) in
-            rw (middle-is, left-child H, right_child H, n) (search-entries-end-right H x 20 (length s / 20) s some-entry (middle-side Ordering.gt e) z)
+            let z : length s / 20 - suc (length s / 20 / 2) ≡ 0 = omega (arith, right_length, k.whole) in
+            let n : label H (tree (entries 20 (length s / 20 - suc (length s / 20 / 2)) (drop (suc (length s / 20 / 2) * 20) s))) ≡ none = rw z (label_none H) in
+            rw (middle_is, left_child H, right_child H, n) (search_entries_end_right H x 20 (length s / 20) s some_entry (middle_side Ordering.gt e) z)
 
-    pub path-on : (H : Octets → Octets) → 20 ≤ length (onward-part x s) → path-in H x s ≡ step (middle-key s) (child-of H (aside-part x s)) (path-in H x (onward-part x s))
-    unfolding path-in onward-part aside-part
-    path-on H h = go (order x (middle-key s)) refl h
+    pub path_on : (H : Octets → Octets) → 20 ≤ length (onward_part x s) → path_in H x s ≡ step (middle_key s) (child_of H (aside_part x s)) (path_in H x (onward_part x s))
+    unfolding path_in onward_part aside_part
+    path_on H h = go (order x (middle_key s)) refl h
       where
-        go : (o : Ordering) → order x (middle-key s) ≡ o → 20 ≤ length (by_side o (take (middle-at s) s) [] (drop (middle-at s + 20) s))
+        go : (o : Ordering) → order x (middle_key s) ≡ o → 20 ≤ length (by_side o (take (middle_at s) s) [] (drop (middle_at s + 20) s))
             → search H x (tree (entries 20 (length s / 20) s))
-            ≡ step (middle-key s) (child-of H (by_side o (drop (middle-at s + 20) s) [] (take (middle-at s) s)))
-            (path-in H x (by_side o (take (middle-at s) s) [] (drop (middle-at s + 20) s)))
+            ≡ step (middle_key s) (child_of H (by_side o (drop (middle_at s + 20) s) [] (take (middle_at s) s)))
+            (path_in H x (by_side o (take (middle_at s) s) [] (drop (middle_at s + 20) s)))
         go Ordering.lt e g =
-            rw (middle-is, right_child H, left-entries) (search-entries-left H x 20 (length s / 20) s some-entry (middle-side Ordering.lt e) (omega (arith, left-length)))
+            rw (middle_is, right_child H, left_entries) (search_entries_left H x 20 (length s / 20) s some_entry (middle_side Ordering.lt e) (omega (arith, left_length)))
         go Ordering.eq e g = absurd (omega arith)
         go Ordering.gt e g =
-            rw (middle-is, left-child H, right-entries) (search-entries-right H x 20 (length s / 20) s some-entry (middle-side Ordering.gt e) (omega (arith, right-length, k.whole)))
+            rw (middle_is, left_child H, right_entries) (search_entries_right H x 20 (length s / 20) s some_entry (middle_side Ordering.gt e) (omega (arith, right_length, k.whole)))
 
     -- what the search goes on in is a key list with fewer keys
-    pub onward-keyed : 20 ≤ length (onward-part x s) → Keyed (onward-part x s) × (length (onward-part x s) + 20 ≤ length s)
-    unfolding onward-part
-    onward-keyed h = go (order x (middle-key s)) h
+    pub onward_keyed : 20 ≤ length (onward_part x s) → Keyed (onward_part x s) × (length (onward_part x s) + 20 ≤ length s)
+    unfolding onward_part
+    onward_keyed h = go (order x (middle_key s)) h
       where
-        go : (o : Ordering) → 20 ≤ length (by_side o (take (middle-at s) s) [] (drop (middle-at s + 20) s))
-            → Keyed (by_side o (take (middle-at s) s) [] (drop (middle-at s + 20) s))
-            × (length (by_side o (take (middle-at s) s) [] (drop (middle-at s + 20) s)) + 20 ≤ length s)
+        go : (o : Ordering) → 20 ≤ length (by_side o (take (middle_at s) s) [] (drop (middle_at s + 20) s))
+            → Keyed (by_side o (take (middle_at s) s) [] (drop (middle_at s + 20) s))
+            × (length (by_side o (take (middle_at s) s) [] (drop (middle_at s + 20) s)) + 20 ≤ length s)
         go Ordering.lt g =
-            (record { some_key = g; whole = omega (arith, left-length); few = omega (arith, left-length, k.few) }, omega (arith, left-length, k.whole, k.some_key))
+            (record { some_key = g; whole = omega (arith, left_length); few = omega (arith, left_length, k.few) }, omega (arith, left_length, k.whole, k.some_key))
         go Ordering.eq g = absurd (omega arith)
         go Ordering.gt g =
-            (record { some_key = g; whole = omega (arith, right-length, k.whole); few = omega (arith, right-length, k.few) }, omega (arith, right-length, k.whole, k.some_key))
+            (record { some_key = g; whole = omega (arith, right_length, k.whole); few = omega (arith, right_length, k.few) }, omega (arith, right_length, k.whole, k.some_key))

@@ -14,49 +14,49 @@ use lib.ListN.{length, take, drop, get_or, replicate, length-drop, length-take, 
 use lib.Seq.{take-take}
 use Rattle.octets.specs.Order.{Octets}
 use Rattle.octets.specs.Put.{Wrote}
-use Rattle.octets.proofs.PutLaws.{put-end}
+use Rattle.octets.proofs.PutLaws.{put_end}
 use Rattle.attester.specs.Entry.{key}
-use Rattle.attester.specs.Record.{Child, bit, flag, child-octets, node-record}
+use Rattle.attester.specs.Record.{Child, bit, flag, child_octets, node_record}
 use Rattle.attester.specs.Path.{Path, foot, step}
 use Rattle.attester.specs.Form.{optional}
-use Rattle.attester.proofs.OffsetLaws.{Optional-at, optional-wrong, optional-none, optional-some, optional-cut}
-use Rattle.attester.proofs.LayoutLaws.{layout, Climbing, climb-start, climb-next}
-use Rattle.tree.specs.Labels.{one-if, flag-of}
+use Rattle.attester.proofs.OffsetLaws.{OptionalAt, optional_wrong, optional_none, optional_some, optional_cut}
+use Rattle.attester.proofs.LayoutLaws.{layout, Climbing, climb_start, climb_next}
+use Rattle.tree.specs.Labels.{one_if, flag_of}
 use Rattle.tree.specs.Edition.{width}
-use Rattle.attestation.specs.Shown.{shown, Formed, key-at, child-at, behind, left_at, right-at, count_at}
+use Rattle.attestation.specs.Shown.{shown, Formed, key_at, child_at, behind, left_at, right_at, count_at}
 
 -- An optional label, by its count
 
 module _ (a : Octets) (at : ℕ) where
-  pub behind-none : get_or a at 0 ≡ 0 → behind a at ≡ suc at
+  pub behind_none : get_or a at 0 ≡ 0 → behind a at ≡ suc at
   unfolding behind
-  behind-none e = rw (eq-eqb (get_or a at 0) 0 e)
+  behind_none e = rw (eq-eqb (get_or a at 0) 0 e)
 
-  pub behind-some : (get_or a at 0 ≡ 0 → ⊥) → behind a at ≡ at + 33
+  pub behind_some : (get_or a at 0 ≡ 0 → ⊥) → behind a at ≡ at + 33
   unfolding behind
-  behind-some n = rw (ne_eqb (get_or a at 0) 0 n)
+  behind_some n = rw (ne_eqb (get_or a at 0) 0 n)
 
-  pub child-none : get_or a at 0 ≡ 0 → child-at a at ≡ none
-  unfolding child-at
-  child-none e = rw (eq-eqb (get_or a at 0) 0 e)
+  pub child_none : get_or a at 0 ≡ 0 → child_at a at ≡ none
+  unfolding child_at
+  child_none e = rw (eq-eqb (get_or a at 0) 0 e)
 
-  pub child-some : (get_or a at 0 ≡ 0 → ⊥) → child-at a at ≡ some (take 32 (drop (suc at) a))
-  unfolding child-at
-  child-some n = rw (ne_eqb (get_or a at 0) 0 n)
+  pub child_some : (get_or a at 0 ≡ 0 → ⊥) → child_at a at ≡ some (take 32 (drop (suc at) a))
+  unfolding child_at
+  child_some n = rw (ne_eqb (get_or a at 0) 0 n)
 
-  pub child-bit : one-if (ltb 0 (get_or a at 0)) ≡ bit (child-at a at)
-  child-bit =
+  pub child_bit : one_if (ltb 0 (get_or a at 0)) ≡ bit (child_at a at)
+  child_bit =
       elim (dec_le (get_or a at 0) 0) [
-        | yes h ↦ rw (child-none (omega arith), le-ltb 0 (get_or a at 0) h)
-        | no h ↦ rw (child-some (λ e. omega arith), lt-ltb 0 (get_or a at 0) (omega arith))
+        | yes h ↦ rw (child_none (omega arith), le-ltb 0 (get_or a at 0) h)
+        | no h ↦ rw (child_some (λ e. omega arith), lt-ltb 0 (get_or a at 0) (omega arith))
       ]
 
   -- the label that was read there
   pub record There (c : Child) (next : ℕ) : Type 0 where
-    pub is : c ≡ child-at a at
+    pub is : c ≡ child_at a at
     pub ends : next ≡ behind a at
 
-  pub there : (next : ℕ) (o : Optional-at a at next) → There o.child next
+  pub there : (next : ℕ) (o : OptionalAt a at next) → There o.child next
   there next o =
       let inside : at < length a = omega (arith, o.further, o.inside) in
       elim (dec_le (get_or a at 0) 0) [
@@ -64,7 +64,7 @@ module _ (a : Octets) (at : ℕ) where
         | no h ↦ elim (dec_le (get_or a at 0) 1) [
           | yes k ↦ of_some (omega arith) (λ e. omega arith) inside
           | no k ↦
-              let u = optional-wrong a at inside (omega arith) in
+              let u = optional_wrong a at inside (omega arith) in
               let v = o.is in
               let z : ◌≡◌ {A = ℕ} 0 1 = cc in
               absurd (omega arith)
@@ -72,34 +72,34 @@ module _ (a : Octets) (at : ℕ) where
       ]
     where
       -- what is left tells the offset
-      same-offset : (m n : ℕ) → m ≤ length a → n ≤ length a → drop m a ≡ drop n a → m ≡ n
-      same-offset m n h k e = omega (arith, length-drop m a, length-drop n a, ap length e)
+      same_offset : (m n : ℕ) → m ≤ length a → n ≤ length a → drop m a ≡ drop n a → m ≡ n
+      same_offset m n h k e = omega (arith, length-drop m a, length-drop n a, ap length e)
 
       of_none : get_or a at 0 ≡ 0 → at < length a → There o.child next
       of_none e inside =
-          let u = optional-none a at inside e in
+          let u = optional_none a at inside e in
           let v = o.is in
           let ends : drop (suc at) a ≡ drop next a = cc in
           let c : o.child ≡ none = cc in
           record {
-            is = c ∙ sym (child-none e);
-            ends = sym (same-offset (suc at) next inside o.inside ends) ∙ sym (behind-none e);
+            is = c ∙ sym (child_none e);
+            ends = sym (same_offset (suc at) next inside o.inside ends) ∙ sym (behind_none e);
           }
 
       of_some : get_or a at 0 ≡ 1 → (get_or a at 0 ≡ 0 → ⊥) → at < length a → There o.child next
       of_some e n inside =
           elim (dec_le (at + 33) (length a)) [
             | yes h ↦
-                let u = optional-some a at h e in
+                let u = optional_some a at h e in
                 let v = o.is in
                 let ends : drop (at + 33) a ≡ drop next a = cc in
                 let c : o.child ≡ some (take 32 (drop (suc at) a)) = cc in
                 record {
-                  is = c ∙ sym (child-some n);
-                  ends = sym (same-offset (at + 33) next h o.inside ends) ∙ sym (behind-some n);
+                  is = c ∙ sym (child_some n);
+                  ends = sym (same_offset (at + 33) next h o.inside ends) ∙ sym (behind_some n);
                 }
             | no h ↦
-                let u = optional-cut a at inside (omega arith) e in
+                let u = optional_cut a at inside (omega arith) e in
                 let v = o.is in
                 let z : ◌≡◌ {A = ℕ} 0 1 = cc in
                 absurd (omega arith)
@@ -108,40 +108,40 @@ module _ (a : Octets) (at : ℕ) where
 -- its octets in a record, as the code writes them over 32 zeros
 
 module _ (a : Octets) (at : ℕ) where
-  pub child-absent : (0 < get_or a at 0 → ⊥) → replicate {A = ℕ} 32 0 ≡ child-octets (child-at a at)
-  unfolding child-octets
-  child-absent n = rw (child-none a at (omega arith))
+  pub child_absent : (0 < get_or a at 0 → ⊥) → replicate {A = ℕ} 32 0 ≡ child_octets (child_at a at)
+  unfolding child_octets
+  child_absent n = rw (child_none a at (omega arith))
 
-  pub child-written : {d : Octets} {e : ℕ} → 0 < get_or a at 0 → at + 33 ≤ length a
-      → Wrote (replicate {A = ℕ} 32 0) 0 (take (at + 33 - (at + 1)) (drop (at + 1) a)) d e → d ≡ child-octets (child-at a at)
-  unfolding child-octets
-  child-written {d} {e} h k w =
+  pub child_written : {d : Octets} {e : ℕ} → 0 < get_or a at 0 → at + 33 ≤ length a
+      → Wrote (replicate {A = ℕ} 32 0) 0 (take (at + 33 - (at + 1)) (drop (at + 1) a)) d e → d ≡ child_octets (child_at a at)
+  unfolding child_octets
+  child_written {d} {e} h k w =
       let n : at + 33 - (at + 1) ≡ 32 = omega arith in
       let m : at + 1 ≡ suc at = omega arith in
       let long : length (take 32 (drop (suc at) a)) ≡ 32 = simp (length-take, length-drop) (omega arith) in
       let v : Wrote (replicate {A = ℕ} 32 0) 0 (take 32 (drop (suc at) a)) d e = rw (n, m) at w in
-      v.left ∙ put-end (replicate {A = ℕ} 32 0) 0 (take 32 (drop (suc at) a)) (rw (length-replicate {A = ℕ} 32 0, long) (omega arith)) ∙ rw (child-some a at (λ e. omega arith))
+      v.left ∙ put_end (replicate {A = ℕ} 32 0) 0 (take 32 (drop (suc at) a)) (rw (length-replicate {A = ℕ} 32 0, long) (omega arith)) ∙ rw (child_some a at (λ e. omega arith))
 
 -- The record of a node whose two children the code has as octets, each with whether it is there
 
-pub record_is : {f : ℕ} {rec l r : Octets} (c : Child) (k : Octets) (e : Child) (b d : Bool) → f ≡ flag-of b d → one-if b ≡ bit c → one-if d ≡ bit e
-    → l ≡ child-octets c → r ≡ child-octets e → rec ≡ f ∷ (l ++ (k ++ r)) → rec ≡ node-record c k e
-unfolding node-record flag
+pub record_is : {f : ℕ} {rec l r : Octets} (c : Child) (k : Octets) (e : Child) (b d : Bool) → f ≡ flag_of b d → one_if b ≡ bit c → one_if d ≡ bit e
+    → l ≡ child_octets c → r ≡ child_octets e → rec ≡ f ∷ (l ++ (k ++ r)) → rec ≡ node_record c k e
+unfolding node_record flag
 record_is c k e b d ef eb ed el er erec = rw (erec, ef, eb, ed, el, er)
 
 -- Where the sections stand
 
 pub record Laid (a : Octets) : Type 0 where
   pub some_key : 1 ≤ get_or a 0 0
-  pub few-keys : get_or a 0 0 ≤ 32
+  pub few_keys : get_or a 0 0 ≤ 32
   pub keys_in : 1 + 20 * get_or a 0 0 ≤ length a
   pub left_in : left_at a < length a
-  pub right-in : right-at a < length a
-  pub count-in : count_at a < length a
-  pub climbing : Climbing width a (shown a) 0 (suc (count_at a)) (foot (key-at a 0) (child-at a (left_at a)) (child-at a (right-at a)))
+  pub right_in : right_at a < length a
+  pub count_in : count_at a < length a
+  pub climbing : Climbing width a (shown a) 0 (suc (count_at a)) (foot (key_at a 0) (child_at a (left_at a)) (child_at a (right_at a)))
 
 pub laid : (a : Octets) → Formed a → Laid a
-unfolding left_at right-at count_at key-at
+unfolding left_at right_at count_at key_at
 laid a f =
     let o = layout width a (shown a) f in
     let at_left : 1 + get_or a 0 0 * 20 ≡ 1 + 20 * get_or a 0 0 = omega arith in
@@ -151,54 +151,54 @@ laid a f =
     let at_count : o.right_end ≡ behind a (behind a (1 + 20 * get_or a 0 0)) = right.ends ∙ ap (behind a) at_right in
     record {
       some_key = o.some_key;
-      few-keys = o.few-keys;
+      few_keys = o.few_keys;
       keys_in = omega (arith, o.left.further, o.left.inside);
       left_in = omega (arith, o.left.further, o.left.inside);
-      right-in = omega (arith, at_right, o.right.further, o.right.inside);
-      count-in = omega (arith, at_count, o.inside);
-      climbing = climbing-at (ap suc at_count) (same-foot (left.is ∙ ap (child-at a) at_left) (right.is ∙ ap (child-at a) at_right)) (climb-start width a (shown a) o);
+      right_in = omega (arith, at_right, o.right.further, o.right.inside);
+      count_in = omega (arith, at_count, o.inside);
+      climbing = climbing_at (ap suc at_count) (same_foot (left.is ∙ ap (child_at a) at_left) (right.is ∙ ap (child_at a) at_right)) (climb_start width a (shown a) o);
     }
   where
-    climbing-at : {m n : ℕ} {p q : Path} → m ≡ n → p ≡ q → Climbing width a (shown a) 0 m p → Climbing width a (shown a) 0 n q
-    climbing-at {m} {n} {p} {q} e g c = rw (← e, ← g) c
+    climbing_at : {m n : ℕ} {p q : Path} → m ≡ n → p ≡ q → Climbing width a (shown a) 0 m p → Climbing width a (shown a) 0 n q
+    climbing_at {m} {n} {p} {q} e g c = rw (← e, ← g) c
 
-    same-foot : {e : Octets} {l m r q : Child} → l ≡ m → r ≡ q → foot e l r ≡ foot e m q
-    same-foot g h = cc
+    same_foot : {e : Octets} {l m r q : Child} → l ≡ m → r ≡ q → foot e l r ≡ foot e m q
+    same_foot g h = cc
 
 -- the offsets, as the code goes from one to the next
 pub left_is : (a : Octets) → 1 + 20 * get_or a 0 0 ≡ left_at a
 unfolding left_at
 left_is a = refl
 
-pub right_is : (a : Octets) {l r : ℕ} → l ≡ left_at a → r ≡ behind a l → r ≡ right-at a
-unfolding right-at
+pub right_is : (a : Octets) {l r : ℕ} → l ≡ left_at a → r ≡ behind a l → r ≡ right_at a
+unfolding right_at
 right_is a e f = f ∙ ap (behind a) e
 
-pub count-is : (a : Octets) {l r n : ℕ} → l ≡ left_at a → r ≡ behind a l → n ≡ behind a r → n ≡ count_at a
+pub count_is : (a : Octets) {l r n : ℕ} → l ≡ left_at a → r ≡ behind a l → n ≡ behind a r → n ≡ count_at a
 unfolding count_at
-count-is a e f g = g ∙ ap (behind a) (right_is a e f)
+count_is a e f g = g ∙ ap (behind a) (right_is a e f)
 
 -- the foot's record, as the code puts it together
-pub foot-recorded : (a : Octets) {l r f : ℕ} {left k right rec : Octets} → l ≡ left_at a → r ≡ behind a l
-    → f ≡ flag-of (ltb 0 (get_or a l 0)) (ltb 0 (get_or a r 0)) → left ≡ child-octets (child-at a l) → k ≡ key-at a 0
-    → right ≡ child-octets (child-at a r) → rec ≡ f ∷ (left ++ (k ++ right))
-    → rec ≡ node-record (child-at a (left_at a)) (key-at a 0) (child-at a (right-at a))
-foot-recorded a {l} {r} {f} {left} {k} {right} {rec} el er ef eleft ek eright erec =
+pub foot_recorded : (a : Octets) {l r f : ℕ} {left k right rec : Octets} → l ≡ left_at a → r ≡ behind a l
+    → f ≡ flag_of (ltb 0 (get_or a l 0)) (ltb 0 (get_or a r 0)) → left ≡ child_octets (child_at a l) → k ≡ key_at a 0
+    → right ≡ child_octets (child_at a r) → rec ≡ f ∷ (left ++ (k ++ right))
+    → rec ≡ node_record (child_at a (left_at a)) (key_at a 0) (child_at a (right_at a))
+foot_recorded a {l} {r} {f} {left} {k} {right} {rec} el er ef eleft ek eright erec =
     rw (← el, ← right_is a el er, ← ek)
-    (record_is (child-at a l) k (child-at a r) (ltb 0 (get_or a l 0)) (ltb 0 (get_or a r 0)) ef (child-bit a l) (child-bit a r) eleft eright erec)
+    (record_is (child_at a l) k (child_at a r) (ltb 0 (get_or a l 0)) (ltb 0 (get_or a r 0)) ef (child_bit a l) (child_bit a r) eleft eright erec)
 
 -- what the code takes for kj
-pub key-part : (a : Octets) (j : ℕ) → take (21 + 20 * j - (1 + 20 * j)) (drop (1 + 20 * j) a) ≡ key-at a j
-unfolding key-at
-key-part a j = let n : 21 + 20 * j - (1 + 20 * j) ≡ 20 = omega arith in rw n
+pub key_part : (a : Octets) (j : ℕ) → take (21 + 20 * j - (1 + 20 * j)) (drop (1 + 20 * j) a) ≡ key_at a j
+unfolding key_at
+key_part a j = let n : 21 + 20 * j - (1 + 20 * j) ≡ 20 = omega arith in rw n
 
-pub key-length : (a : Octets) (j : ℕ) → 21 + 20 * j ≤ length a → length (key-at a j) ≡ 20
-unfolding key-at
-key-length a j h = simp (length-take, length-drop) (omega arith)
+pub key_length : (a : Octets) (j : ℕ) → 21 + 20 * j ≤ length a → length (key_at a j) ≡ 20
+unfolding key_at
+key_length a j h = simp (length-take, length-drop) (omega arith)
 
 -- kj is its own key
-pub key_of : (a : Octets) (j : ℕ) → key (key-at a j) ≡ key-at a j
-unfolding key key-at
+pub key_of : (a : Octets) (j : ℕ) → key (key_at a j) ≡ key_at a j
+unfolding key key_at
 key_of a j = take-take 20 20 (drop (1 + 20 * j) a) (le_refl 20)
 
 -- One level up
@@ -207,22 +207,22 @@ module _ (a : Octets) (p : Path) (j at : ℕ) (q : Path) (c : Climbing width a p
   pub record Higher : Type 0 where
     pub inside : at < length a
     pub ends : behind a at ≤ length a
-    pub climbing : Climbing width a p (suc j) (behind a at) (step (key-at a (suc j)) (child-at a at) q)
+    pub climbing : Climbing width a p (suc j) (behind a at) (step (key_at a (suc j)) (child_at a at) q)
 
   pub higher : Higher
-  unfolding key-at
+  unfolding key_at
   higher =
-      let n = climb-next width a p j at q c h in
+      let n = climb_next width a p j at q c h in
       let t = there a at n.next n.sibling in
       let offset : 1 + suc j * 20 ≡ 1 + 20 * suc j = omega arith in
       record {
         inside = omega (arith, n.sibling.further, n.sibling.inside);
         ends = omega (arith, t.ends, n.sibling.inside);
-        climbing = higher-at t.ends (same_step (ap (λ m. take 20 (drop m a)) offset) t.is) n.climbing;
+        climbing = higher_at t.ends (same_step (ap (λ m. take 20 (drop m a)) offset) t.is) n.climbing;
       }
     where
-      higher-at : {m n : ℕ} {r s : Path} → m ≡ n → r ≡ s → Climbing width a p (suc j) m r → Climbing width a p (suc j) n s
-      higher-at e g d = rw (← e, ← g) d
+      higher_at : {m n : ℕ} {r s : Path} → m ≡ n → r ≡ s → Climbing width a p (suc j) m r → Climbing width a p (suc j) n s
+      higher_at e g d = rw (← e, ← g) d
 
       same_step : {d e : Octets} {r s : Child} → d ≡ e → r ≡ s → step d r q ≡ step e s q
       same_step g k = cc

@@ -17,12 +17,12 @@ pub record Keyed (s : Octets) : Type 0 where
   pub few : length s ≤ most * width
 
 -- where the middle key begins (01: "the key at position floor(n/2)")
-unfoldable pub middle-at : Octets → ℕ
-middle-at s = 20 * (length s / 20 / 2)
+unfoldable pub middle_at : Octets → ℕ
+middle_at s = 20 * (length s / 20 / 2)
 
 -- that key
-abbrev pub middle-key : Octets → Octets
-middle-key s = take 20 (drop (middle-at s) s)
+abbrev pub middle_key : Octets → Octets
+middle_key s = take 20 (drop (middle_at s) s)
 
 -- one of three, by where x stands
 abbrev pub by_side : Ordering → Octets → Octets → Octets → Octets
@@ -31,17 +31,17 @@ by_side Ordering.eq a b c = b
 by_side Ordering.gt a b c = c
 
 -- the keys among which the search goes on; none where x is the middle key
-unfoldable pub onward-part : Octets → Octets → Octets
-onward-part x s = by_side (order x (middle-key s)) (take (middle-at s) s) [] (drop (middle-at s + 20) s)
+unfoldable pub onward_part : Octets → Octets → Octets
+onward_part x s = by_side (order x (middle_key s)) (take (middle_at s) s) [] (drop (middle_at s + 20) s)
 
 -- the keys that it leaves aside
-unfoldable pub aside-part : Octets → Octets → Octets
-aside-part x s = by_side (order x (middle-key s)) (drop (middle-at s + 20) s) [] (take (middle-at s) s)
+unfoldable pub aside_part : Octets → Octets → Octets
+aside_part x s = by_side (order x (middle_key s)) (drop (middle_at s + 20) s) [] (take (middle_at s) s)
 
 -- the child that these keys make, by the label function H
-unfoldable pub child-of : (Octets → Octets) → Octets → Child
-child-of H s = label H (tree (entries width (length s / width) s))
+unfoldable pub child_of : (Octets → Octets) → Octets → Child
+child_of H s = label H (tree (entries width (length s / width) s))
 
 -- the path of the search for x among these keys, by the label function H
-unfoldable pub path-in : (Octets → Octets) → Octets → Octets → Path
-path-in H x s = search H x (tree (entries width (length s / width) s))
+unfoldable pub path_in : (Octets → Octets) → Octets → Octets → Path
+path_in H x s = search H x (tree (entries width (length s / width) s))

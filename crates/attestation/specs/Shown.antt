@@ -17,12 +17,12 @@ abbrev pub Formed : Octets → Type 0
 Formed a = form.form width a ≡ formed (shown a)
 
 -- 01: kj
-unfoldable pub key-at : Octets → ℕ → Octets
-key-at a j = take 20 (drop (1 + 20 * j) a)
+unfoldable pub key_at : Octets → ℕ → Octets
+key_at a j = take 20 (drop (1 + 20 * j) a)
 
 -- the optional label at an offset
-unfoldable pub child-at : Octets → ℕ → Child
-child-at a at = cond (eqb (get_or a at 0) 0) none (some (take 32 (drop (suc at) a)))
+unfoldable pub child_at : Octets → ℕ → Child
+child_at a at = cond (eqb (get_or a at 0) 0) none (some (take 32 (drop (suc at) a)))
 
 -- the offset behind it
 unfoldable pub behind : Octets → ℕ → ℕ
@@ -32,11 +32,11 @@ behind a at = cond (eqb (get_or a at 0) 0) (suc at) (at + 33)
 unfoldable pub left_at : Octets → ℕ
 left_at a = 1 + 20 * get_or a 0 0
 
-unfoldable pub right-at : Octets → ℕ
-right-at a = behind a (left_at a)
+unfoldable pub right_at : Octets → ℕ
+right_at a = behind a (left_at a)
 
 unfoldable pub count_at : Octets → ℕ
-count_at a = behind a (right-at a)
+count_at a = behind a (right_at a)
 
 -- the smallest faulty j, or 0
 abbrev pub place_of : Option ℕ → ℕ

@@ -4,13 +4,13 @@ ghost use Rattle.std.specs.Prelude.{◌≡◌, ◌+◌, ◌*◌, ◌≤◌, leng
 ghost use Rattle.attester.specs.Reader.{many};
 ghost use Rattle.attester.specs.Form.{optional, sections};
 ghost use Rattle.tree.specs.Edition.{width};
-ghost use Rattle.attestation.specs.Form.{read_answer, keys-section, siblings-section};
+ghost use Rattle.attestation.specs.Form.{read_answer, keys_section, siblings_section};
 
 use answer::Answer;
 
 // Where the keys end, whose number K, 1 to 32, stands in front.
 fn keys_end(att: &[u8]) -> Answer
-    ensures { result ≡ read_answer (length att.now) (keys-section width att.now) }
+    ensures { result ≡ read_answer (length att.now) (keys_section width att.now) }
 {
     if att.len() == 0 {
         return Answer::Refused {
@@ -91,7 +91,7 @@ fn optionals_end(att: &[u8], at: usize, m: usize) -> Answer
 // Where the m siblings end, whose number stands in front of them, at offset at.
 fn siblings_end(att: &[u8], at: usize, m: usize) -> Answer
     requires { (at ≤ length att.now) × (at + 33 * m ≤ 1730) }
-    ensures { result ≡ read_answer (length att.now) (siblings-section m (drop at att.now)) }
+    ensures { result ≡ read_answer (length att.now) (siblings_section m (drop at att.now)) }
 {
     if att.len() <= at {
         return Answer::Refused {

@@ -6,18 +6,18 @@ ghost use Rattle.octets.specs.Put.{Wrote};
 ghost use Rattle.octets.specs.Order.{Octets};
 ghost use Rattle.profile.specs.Profile.{label};
 ghost use Rattle.attester.specs.Record.{bit};
-ghost use Rattle.attester.specs.Path.{foot-left, foot-right, height, siblings};
+ghost use Rattle.attester.specs.Path.{foot_left, foot_right, height, siblings};
 ghost use Rattle.attester.specs.Path as path;
-ghost use Rattle.attester.specs.Attestation.{optional-octets, render};
-ghost use Rattle.attester.proofs.LengthLaws.{levels-length};
+ghost use Rattle.attester.specs.Attestation.{optional_octets, render};
+ghost use Rattle.attester.proofs.LengthLaws.{levels_length};
 ghost use Rattle.tree.specs.Edition.{width};
-ghost use Rattle.attestation.specs.Parts.{Keyed, child-of, path-in};
+ghost use Rattle.attestation.specs.Parts.{Keyed, child_of, path_in};
 
 use crate::parts::{after, aside, before, middle, onward};
 
 // 1 if these keys make a child, 0 if there are none.
 fn child_bit(keys: &[u8]) -> usize
-    ensures { ((H : Octets → Octets) → result ≡ bit (child-of H keys.now)) × (result ≤ 1) }
+    ensures { ((H : Octets → Octets) → result ≡ bit (child_of H keys.now)) × (result ≤ 1) }
 {
     if keys.len() < 20 { 0 } else { 1 }
 }
@@ -25,7 +25,7 @@ fn child_bit(keys: &[u8]) -> usize
 // How many octets the levels of x's path take: each a key, a count and its labels.
 pub fn levels_length(keys: &[u8], x: &[u8]) -> usize
     requires { Keyed keys.now }
-    ensures { (H : Octets → Octets) → result ≡ levels-length width (path-in H x.now keys.now) }
+    ensures { (H : Octets → Octets) → result ≡ levels_length width (path_in H x.now keys.now) }
 {
     let on = onward(keys, x);
     if on.len() < 20 {
@@ -37,7 +37,7 @@ pub fn levels_length(keys: &[u8], x: &[u8]) -> usize
 // How many keys stand on x's path.
 fn levels(keys: &[u8], x: &[u8]) -> usize
     requires { Keyed keys.now }
-    ensures { (H : Octets → Octets) → result ≡ suc (height (path-in H x.now keys.now)) }
+    ensures { (H : Octets → Octets) → result ≡ suc (height (path_in H x.now keys.now)) }
 {
     let on = onward(keys, x);
     if on.len() < 20 {
@@ -48,8 +48,8 @@ fn levels(keys: &[u8], x: &[u8]) -> usize
 
 // Writes the keys of x's path from index at on, the foot's first.
 fn put_keys(out: &mut [u8], at: usize, keys: &[u8], x: &[u8]) -> usize
-    requires { Keyed keys.now × ((H : Octets → Octets) → at + length (flatten (path.keys (path-in H x.now keys.now))) ≤ length out.old) }
-    ensures { (H : Octets → Octets) → Wrote out.old at (flatten (path.keys (path-in H x.now keys.now))) out.new result }
+    requires { Keyed keys.now × ((H : Octets → Octets) → at + length (flatten (path.keys (path_in H x.now keys.now))) ≤ length out.old) }
+    ensures { (H : Octets → Octets) → Wrote out.old at (flatten (path.keys (path_in H x.now keys.now))) out.new result }
 {
     let on = onward(keys, x);
     if on.len() < 20 {
@@ -61,8 +61,8 @@ fn put_keys(out: &mut [u8], at: usize, keys: &[u8], x: &[u8]) -> usize
 
 // Writes the optional label of the subtree of these keys from index at on.
 fn put_optional(profile: u32, out: &mut [u8], at: usize, keys: &[u8]) -> usize
-    requires { at + length (optional-octets (child-of (label profile) keys.now)) ≤ length out.old }
-    ensures { Wrote out.old at (optional-octets (child-of (label profile) keys.now)) out.new result }
+    requires { at + length (optional_octets (child_of (label profile) keys.now)) ≤ length out.old }
+    ensures { Wrote out.old at (optional_octets (child_of (label profile) keys.now)) out.new result }
 {
     if keys.len() < 20 {
         let none = [0u8];
@@ -76,8 +76,8 @@ fn put_optional(profile: u32, out: &mut [u8], at: usize, keys: &[u8]) -> usize
 
 // Writes the optional labels of the foot's two children from index at on.
 fn put_foot(profile: u32, out: &mut [u8], at: usize, keys: &[u8], x: &[u8]) -> usize
-    requires { Keyed keys.now × (at + length (optional-octets (foot-left (path-in (label profile) x.now keys.now)) ++ optional-octets (foot-right (path-in (label profile) x.now keys.now))) ≤ length out.old) }
-    ensures { Wrote out.old at (optional-octets (foot-left (path-in (label profile) x.now keys.now)) ++ optional-octets (foot-right (path-in (label profile) x.now keys.now))) out.new result }
+    requires { Keyed keys.now × (at + length (optional_octets (foot_left (path_in (label profile) x.now keys.now)) ++ optional_octets (foot_right (path_in (label profile) x.now keys.now))) ≤ length out.old) }
+    ensures { Wrote out.old at (optional_octets (foot_left (path_in (label profile) x.now keys.now)) ++ optional_octets (foot_right (path_in (label profile) x.now keys.now))) out.new result }
 {
     let on = onward(keys, x);
     if on.len() < 20 {
@@ -89,8 +89,8 @@ fn put_foot(profile: u32, out: &mut [u8], at: usize, keys: &[u8], x: &[u8]) -> u
 
 // Writes the siblings of x's path from index at on, the lowest first.
 fn put_siblings(profile: u32, out: &mut [u8], at: usize, keys: &[u8], x: &[u8]) -> usize
-    requires { Keyed keys.now × (at + length (flatten (map optional-octets (siblings (path-in (label profile) x.now keys.now)))) ≤ length out.old) }
-    ensures { Wrote out.old at (flatten (map optional-octets (siblings (path-in (label profile) x.now keys.now)))) out.new result }
+    requires { Keyed keys.now × (at + length (flatten (map optional_octets (siblings (path_in (label profile) x.now keys.now)))) ≤ length out.old) }
+    ensures { Wrote out.old at (flatten (map optional_octets (siblings (path_in (label profile) x.now keys.now)))) out.new result }
 {
     let on = onward(keys, x);
     if on.len() < 20 {
@@ -102,8 +102,8 @@ fn put_siblings(profile: u32, out: &mut [u8], at: usize, keys: &[u8], x: &[u8]) 
 
 // Writes the attestation in a profile for x to the front of out.
 pub fn put_attestation(profile: u32, out: &mut [u8], keys: &[u8], x: &[u8]) -> usize
-    requires { Keyed keys.now × (length (render (path-in (label profile) x.now keys.now)) ≤ length out.old) }
-    ensures { Wrote out.old 0 (render (path-in (label profile) x.now keys.now)) out.new result }
+    requires { Keyed keys.now × (length (render (path_in (label profile) x.now keys.now)) ≤ length out.old) }
+    ensures { Wrote out.old 0 (render (path_in (label profile) x.now keys.now)) out.new result }
 {
     let k = levels(keys, x);
     let count = [k as u8];

@@ -1,11 +1,11 @@
 // Judging an attestation of sound form (01, "Verdict", steps 3 to 6). Only the comparison with x tells left from right.
 ghost use Rattle.std.specs.Prelude.{◌≡◌, ◌≤◌, ◌<◌, length, get_or};
 ghost use Rattle.attester.specs.Path.{down};
-ghost use Rattle.attester.specs.Verdict.{side, join, root-record};
+ghost use Rattle.attester.specs.Verdict.{side, join, root_record};
 ghost use Rattle.attester.specs.Verdict as verdict;
 ghost use Rattle.profile.specs.Profile.{label};
-ghost use Rattle.attestation.specs.Shown.{Formed, shown, key-at, child-at, behind, place_of};
-ghost use Rattle.attestation.specs.Verify.{verdict-of};
+ghost use Rattle.attestation.specs.Shown.{Formed, shown, key_at, child_at, behind, place_of};
+ghost use Rattle.attestation.specs.Verify.{verdict_of};
 
 use crate::shown;
 use answer::Verdict;
@@ -49,7 +49,7 @@ fn fault(att: &[u8], x: &[u8]) -> usize
 // Step 5, one level up: the record of the key k, with the label so far on x's side and the sibling at offset at on the other.
 fn above(att: &[u8], at: usize, x: &[u8], k: &[u8], label: &[u8]) -> [u8; 85]
     requires { (at < length att.now) × (behind att.now at ≤ length att.now) × (length k.now ≡ 20) × (length label.now ≡ 32) }
-    ensures { result ≡ join (side x.now k.now) k.now (child-at att.now at) label.now }
+    ensures { result ≡ join (side x.now k.now) k.now (child_at att.now at) label.now }
 {
     let there = 0 < att[at];
     let sibling = shown::child(att, at);
@@ -79,7 +79,7 @@ fn above(att: &[u8], at: usize, x: &[u8], k: &[u8], label: &[u8]) -> [u8; 85]
 // Step 5: the record so many levels below the root, from the foot's record and the labels, in a profile, up to there.
 pub fn record(profile: u32, att: &[u8], x: &[u8], below: usize) -> [u8; 85]
     requires { Formed att.now × (below < get_or att.now 0 0) }
-    ensures { result ≡ root-record (label profile) x.now (down below (shown att.now)) }
+    ensures { result ≡ root_record (label profile) x.now (down below (shown att.now)) }
 {
     let top = att[0] as usize - 1 - below;
     let mut at = shown::siblings(att);
@@ -97,7 +97,7 @@ pub fn record(profile: u32, att: &[u8], x: &[u8], below: usize) -> [u8; 85]
 // Steps 3 to 6, in a profile.
 pub fn judge(profile: u32, x: &[u8], d: &[u8], att: &[u8]) -> Verdict
     requires { Formed att.now }
-    ensures { result ≡ verdict-of (verdict.judge (label profile) x.now d.now (shown att.now)) }
+    ensures { result ≡ verdict_of (verdict.judge (label profile) x.now d.now (shown att.now)) }
 {
     if hidden(att, x) {
         return Verdict::Refused {

@@ -1,13 +1,13 @@
 // The parts of an attestation of sound form: its keys, its optional labels, the foot's record.
 ghost use Rattle.std.specs.Prelude.{◌≡◌, suc, ◌+◌, ◌*◌, ◌≤◌, ◌<◌, length};
-ghost use Rattle.attester.specs.Record.{child-octets, node-record};
-ghost use Rattle.attestation.specs.Shown.{Formed, key-at, child-at, left_at, right-at, count_at};
+ghost use Rattle.attester.specs.Record.{child_octets, node_record};
+ghost use Rattle.attestation.specs.Shown.{Formed, key_at, child_at, left_at, right_at, count_at};
 ghost use Rattle.attestation.specs.Shown as shown;
 
 // kj, from the foot's k0 on.
 pub fn key(att: &[u8], j: usize) -> &[u8]
     requires { 21 + 20 * j ≤ length att.now }
-    ensures { result.now ≡ key-at att.now j }
+    ensures { result.now ≡ key_at att.now j }
 {
     &att[1 + 20 * j..21 + 20 * j]
 }
@@ -23,7 +23,7 @@ pub fn behind(att: &[u8], at: usize) -> usize
 // The octets of the optional label at offset at, in a record: 32 zeros where it is absent.
 pub fn child(att: &[u8], at: usize) -> [u8; 32]
     requires { (at < length att.now) × (shown.behind att.now at ≤ length att.now) }
-    ensures { result ≡ child-octets (child-at att.now at) }
+    ensures { result ≡ child_octets (child_at att.now at) }
 {
     let mut label = [0u8; 32];
     if 0 < att[at] {
@@ -51,7 +51,7 @@ pub fn siblings(att: &[u8]) -> usize
 // The foot's record.
 pub fn foot_record(att: &[u8]) -> [u8; 85]
     requires { Formed att.now }
-    ensures { result ≡ node-record (child-at att.now (left_at att.now)) (key-at att.now 0) (child-at att.now (right-at att.now)) }
+    ensures { result ≡ node_record (child_at att.now (left_at att.now)) (key_at att.now 0) (child_at att.now (right_at att.now)) }
 {
     let l = left(att);
     let r = behind(att, l);

@@ -6,42 +6,42 @@ use Prim.Native.Nat.{ℕ, suc, ◌-◌, ◌*◌, ◌/◌, ◌<◌}
 use lib.ListN.{length, take, drop, replicate}
 use Rattle.octets.specs.Order.{Octets}
 use Rattle.attester.specs.Entry.{entries}
-use Rattle.attester.specs.Record.{bit, child-octets, node-record}
+use Rattle.attester.specs.Record.{bit, child_octets, node_record}
 use Rattle.attester.specs.Tree.{Tree, leaf, node, tree}
 use Rattle.attester.specs.Label.{label, digest}
 use Rattle.attester.proofs.Sizes.{Labelled}
-use Rattle.attester.proofs.RecordLaws.{child-octets-length}
-use Rattle.attester.proofs.TreeLaws.{tree-none, tree-node, tree-of-entries}
+use Rattle.attester.proofs.RecordLaws.{child_octets_length}
+use Rattle.attester.proofs.TreeLaws.{tree_none, tree_node, tree_of_entries}
 
 module _ (H : Octets → Octets) where
-  pub label-none : label H (tree []) ≡ none
+  pub label_none : label H (tree []) ≡ none
   unfolding label
-  label-none = rw tree-none
+  label_none = rw tree_none
 
   -- a list with entries has a labelled tree
-  pub label-bit : (es : List Octets) → 0 < length es → bit (label H (tree es)) ≡ 1
+  pub label_bit : (es : List Octets) → 0 < length es → bit (label H (tree es)) ≡ 1
   unfolding label
-  label-bit es h = rw (tree-node es h)
+  label_bit es h = rw (tree_node es h)
 
-  pub digest-none : digest H [] ≡ replicate {A = ℕ} 32 0
-  unfolding digest child-octets
-  digest-none = rw label-none
+  pub digest_none : digest H [] ≡ replicate {A = ℕ} 32 0
+  unfolding digest child_octets
+  digest_none = rw label_none
 
-  pub digest-of-entries : (w n : ℕ) (s : Octets) → 0 < n
+  pub digest_of_entries : (w n : ℕ) (s : Octets) → 0 < n
       → digest H (entries w n s)
-      ≡ H (node-record
+      ≡ H (node_record
       (label H (tree (entries w (n / 2) s)))
       (take w (drop (n / 2 * w) s))
       (label H (tree (entries w (n - suc (n / 2)) (drop (suc (n / 2) * w) s)))))
-  unfolding digest label child-octets
-  digest-of-entries w n s h = rw (tree-of-entries w n s h)
+  unfolding digest label child_octets
+  digest_of_entries w n s h = rw (tree_of_entries w n s h)
 
-module _ (H : Octets → Octets) (H-length : (m : Octets) → length (H m) ≡ 32) where
-  pub label-labelled : (t : Tree) → Labelled (label H t)
+module _ (H : Octets → Octets) (H_length : (m : Octets) → length (H m) ≡ 32) where
+  pub label_labelled : (t : Tree) → Labelled (label H t)
   unfolding label
-  label-labelled leaf = tt
-  label-labelled (node l e r) = H-length _
+  label_labelled leaf = tt
+  label_labelled (node l e r) = H_length _
 
-  pub digest-length : (es : List Octets) → length (digest H es) ≡ 32
+  pub digest_length : (es : List Octets) → length (digest H es) ≡ 32
   unfolding digest
-  digest-length es = child-octets-length (label H (tree es)) (label-labelled (tree es))
+  digest_length es = child_octets_length (label H (tree es)) (label_labelled (tree es))

@@ -3,54 +3,54 @@ use mathlib.Core.List.{List, [], ◌∷◌, ◌++◌, map, flatten}
 use Prim.Native.Nat.{◌<◌}
 use native.Mathlib.Omega.{arith}
 use lib.ListN.{length}
-use Rattle.octets.specs.Order.{Octets, Are-octets}
-use Rattle.octets.proofs.OctetLaws.{octets-append}
+use Rattle.octets.specs.Order.{Octets, AreOctets}
+use Rattle.octets.proofs.OctetLaws.{octets_append}
 use Rattle.attester.specs.Record.{Child}
 use Rattle.attester.specs.Tree.{Tree, leaf, node, tree}
 use Rattle.attester.specs.Label.{label}
 use Rattle.attester.specs.Listing.{Each}
-use Rattle.attester.specs.Path.{Path, foot-left, foot-right, height, keys, siblings}
+use Rattle.attester.specs.Path.{Path, foot_left, foot_right, height, keys, siblings}
 use Rattle.attester.specs.Search.{search}
-use Rattle.attester.specs.Attestation.{optional-octets, render}
+use Rattle.attester.specs.Attestation.{optional_octets, render}
 use Rattle.attester.proofs.Sizes.{Throughout}
 use Rattle.attester.proofs.ReaderLaws.{All}
-use Rattle.attester.proofs.TreeLaws.{inorder-of-tree}
-use Rattle.attester.proofs.PathLaws.{throughout-keys, throughout-siblings, throughout-left, throughout-right}
-use Rattle.attester.proofs.SearchLaws.{found-throughout}
-use Rattle.attester.proofs.AttestationLaws.{issued-found}
+use Rattle.attester.proofs.TreeLaws.{inorder_of_tree}
+use Rattle.attester.proofs.PathLaws.{throughout_keys, throughout_siblings, throughout_left, throughout_right}
+use Rattle.attester.proofs.SearchLaws.{found_throughout}
+use Rattle.attester.proofs.AttestationLaws.{issued_found}
 
-abbrev pub Octet-child : Child → Type 0
-Octet-child c = Are-octets (optional-octets c)
+abbrev pub OctetChild : Child → Type 0
+OctetChild c = AreOctets (optional_octets c)
 
-abbrev pub Octet-path : Path → Type 0
-Octet-path = Throughout Are-octets Octet-child
+abbrev pub OctetPath : Path → Type 0
+OctetPath = Throughout AreOctets OctetChild
 
-keys-octets : (es : List Octets) → All Are-octets es → Are-octets (flatten es)
+keys_octets : (es : List Octets) → All AreOctets es → AreOctets (flatten es)
 unfolding flatten
-keys-octets [] h = tt
-keys-octets (e ∷ es) h = octets-append e (flatten es) h.0 (keys-octets es h.1)
+keys_octets [] h = tt
+keys_octets (e ∷ es) h = octets_append e (flatten es) h.0 (keys_octets es h.1)
 
-siblings-octets : (ss : List Child) → All Octet-child ss → Are-octets (flatten (map optional-octets ss))
+siblings_octets : (ss : List Child) → All OctetChild ss → AreOctets (flatten (map optional_octets ss))
 unfolding flatten
-siblings-octets [] h = tt
-siblings-octets (s ∷ ss) h = octets-append (optional-octets s) (flatten (map optional-octets ss)) h.0 (siblings-octets ss h.1)
+siblings_octets [] h = tt
+siblings_octets (s ∷ ss) h = octets_append (optional_octets s) (flatten (map optional_octets ss)) h.0 (siblings_octets ss h.1)
 
-pub render-octets : (p : Path) → height p < 32 → Octet-path p → Are-octets (render p)
+pub render_octets : (p : Path) → height p < 32 → OctetPath p → AreOctets (render p)
 unfolding render
-render-octets p low h =
-    let s₄ = height p ∷ flatten (map optional-octets (siblings p)) in
-    let s₃ = optional-octets (foot-right p) ++ s₄ in
-    let s₂ = optional-octets (foot-left p) ++ s₃ in
-    let h₄ : Are-octets s₄ = (omega arith, siblings-octets (siblings p) (throughout-siblings Are-octets Octet-child p h)) in
-    let h₃ = octets-append (optional-octets (foot-right p)) s₄ (throughout-right Are-octets Octet-child p h) h₄ in
-    let h₂ = octets-append (optional-octets (foot-left p)) s₃ (throughout-left Are-octets Octet-child p h) h₃ in
-    (omega arith, octets-append (flatten (keys p)) s₂ (keys-octets (keys p) (throughout-keys Are-octets Octet-child p h)) h₂)
+render_octets p low h =
+    let s₄ = height p ∷ flatten (map optional_octets (siblings p)) in
+    let s₃ = optional_octets (foot_right p) ++ s₄ in
+    let s₂ = optional_octets (foot_left p) ++ s₃ in
+    let h₄ : AreOctets s₄ = (omega arith, siblings_octets (siblings p) (throughout_siblings AreOctets OctetChild p h)) in
+    let h₃ = octets_append (optional_octets (foot_right p)) s₄ (throughout_right AreOctets OctetChild p h) h₄ in
+    let h₂ = octets_append (optional_octets (foot_left p)) s₃ (throughout_left AreOctets OctetChild p h) h₃ in
+    (omega arith, octets_append (flatten (keys p)) s₂ (keys_octets (keys p) (throughout_keys AreOctets OctetChild p h)) h₂)
 
-module _ (H : Octets → Octets) (H-octets : (r : Octets) → Are-octets (H r)) where
-  label-octets : (t : Tree) → Octet-child (label H t)
-  unfolding label optional-octets
-  label-octets leaf = (omega arith, tt)
-  label-octets (node l e r) = (omega arith, H-octets _)
+module _ (H : Octets → Octets) (H_octets : (r : Octets) → AreOctets (H r)) where
+  label_octets : (t : Tree) → OctetChild (label H t)
+  unfolding label optional_octets
+  label_octets leaf = (omega arith, tt)
+  label_octets (node l e r) = (omega arith, H_octets _)
 
-  pub issued-octets : (es : List Octets) (x : Octets) → 0 < length es → Each Are-octets es → Octet-path (search H x (tree es))
-  issued-octets es x n h = found-throughout H x Are-octets Octet-child label-octets (issued-found H es x n) (rw (inorder-of-tree es) h)
+  pub issued_octets : (es : List Octets) (x : Octets) → 0 < length es → Each AreOctets es → OctetPath (search H x (tree es))
+  issued_octets es x n h = found_throughout H x AreOctets OctetChild label_octets (issued_found H es x n) (rw (inorder_of_tree es) h)

@@ -6,8 +6,8 @@ use native.Mathlib.Omega.{arith}
 use lib.ListN.{length, length-append}
 use Rattle.octets.specs.Order.{Octets}
 use Rattle.attester.specs.Record.{Child}
-use Rattle.attester.specs.Path.{Path, foot, step, foot-entry, foot-left, foot-right, height, keys, siblings}
-use Rattle.attester.specs.Form.{climb, path-of}
+use Rattle.attester.specs.Path.{Path, foot, step, foot_entry, foot_left, foot_right, height, keys, siblings}
+use Rattle.attester.specs.Form.{climb, path_of}
 use Rattle.attester.proofs.Sizes.{Labelled, Throughout, Sized}
 use Rattle.attester.proofs.ReaderLaws.{All, all_append}
 
@@ -16,96 +16,96 @@ unfolding keys height
 keys_length (foot e l r) = refl
 keys_length (step e s p) = simp length-append (omega (arith, keys_length p))
 
-pub siblings-length : (p : Path) → length (siblings p) ≡ height p
+pub siblings_length : (p : Path) → length (siblings p) ≡ height p
 unfolding siblings height
-siblings-length (foot e l r) = refl
-siblings-length (step e s p) = simp length-append (omega (arith, siblings-length p))
+siblings_length (foot e l r) = refl
+siblings_length (step e s p) = simp length-append (omega (arith, siblings_length p))
 
 -- What holds throughout a path holds in each section
 
 module _ (P : Octets → Type 0) (Q : Child → Type 0) where
-  pub throughout-keys : (p : Path) → Throughout P Q p → All P (keys p)
+  pub throughout_keys : (p : Path) → Throughout P Q p → All P (keys p)
   unfolding keys
-  throughout-keys (foot e l r) h = (h.0, tt)
-  throughout-keys (step e s p) h = all_append P (keys p) (e ∷ []) (throughout-keys p h.2) (h.0, tt)
+  throughout_keys (foot e l r) h = (h.0, tt)
+  throughout_keys (step e s p) h = all_append P (keys p) (e ∷ []) (throughout_keys p h.2) (h.0, tt)
 
-  pub throughout-siblings : (p : Path) → Throughout P Q p → All Q (siblings p)
+  pub throughout_siblings : (p : Path) → Throughout P Q p → All Q (siblings p)
   unfolding siblings
-  throughout-siblings (foot e l r) h = tt
-  throughout-siblings (step e s p) h = all_append Q (siblings p) (s ∷ []) (throughout-siblings p h.2) (h.1, tt)
+  throughout_siblings (foot e l r) h = tt
+  throughout_siblings (step e s p) h = all_append Q (siblings p) (s ∷ []) (throughout_siblings p h.2) (h.1, tt)
 
-  pub throughout-left : (p : Path) → Throughout P Q p → Q (foot-left p)
-  unfolding foot-left
-  throughout-left (foot e l r) h = h.1
-  throughout-left (step e s p) h = throughout-left p h.2
+  pub throughout_left : (p : Path) → Throughout P Q p → Q (foot_left p)
+  unfolding foot_left
+  throughout_left (foot e l r) h = h.1
+  throughout_left (step e s p) h = throughout_left p h.2
 
-  pub throughout-right : (p : Path) → Throughout P Q p → Q (foot-right p)
-  unfolding foot-right
-  throughout-right (foot e l r) h = h.2
-  throughout-right (step e s p) h = throughout-right p h.2
+  pub throughout_right : (p : Path) → Throughout P Q p → Q (foot_right p)
+  unfolding foot_right
+  throughout_right (foot e l r) h = h.2
+  throughout_right (step e s p) h = throughout_right p h.2
 
 module _ (w : ℕ) where
-  pub sized-left : (p : Path) → Sized w p → Labelled (foot-left p)
-  sized-left = throughout-left (λ e. length e ≡ w) Labelled
+  pub sized_left : (p : Path) → Sized w p → Labelled (foot_left p)
+  sized_left = throughout_left (λ e. length e ≡ w) Labelled
 
-  pub sized-right : (p : Path) → Sized w p → Labelled (foot-right p)
-  sized-right = throughout-right (λ e. length e ≡ w) Labelled
+  pub sized_right : (p : Path) → Sized w p → Labelled (foot_right p)
+  sized_right = throughout_right (λ e. length e ≡ w) Labelled
 
 -- Climbing
 
-pub climb-append : (p : Path) (es : List Octets) (ss : List Child) (e : Octets) (s : Child) → length es ≡ length ss
+pub climb_append : (p : Path) (es : List Octets) (ss : List Child) (e : Octets) (s : Child) → length es ≡ length ss
     → climb p (es ++ (e ∷ [])) (ss ++ (s ∷ [])) ≡ step e s (climb p es ss)
 unfolding climb
-climb-append p [] [] e s h = refl
-climb-append p [] (s₁ ∷ ss) e s h = absurd (omega arith)
-climb-append p (e₁ ∷ es) [] e s h = absurd (omega arith)
-climb-append p (e₁ ∷ es) (s₁ ∷ ss) e s h = climb-append (step e₁ s₁ p) es ss e s (omega arith)
+climb_append p [] [] e s h = refl
+climb_append p [] (s₁ ∷ ss) e s h = absurd (omega arith)
+climb_append p (e₁ ∷ es) [] e s h = absurd (omega arith)
+climb_append p (e₁ ∷ es) (s₁ ∷ ss) e s h = climb_append (step e₁ s₁ p) es ss e s (omega arith)
 
-path-of-append : (es : List Octets) (l r : Child) (ss : List Child) (e : Octets) (s : Child) → length es ≡ suc (length ss)
-    → path-of (es ++ (e ∷ [])) l r (ss ++ (s ∷ [])) ≡ step e s (path-of es l r ss)
-path-of-append [] l r ss e s h = absurd (omega arith)
-path-of-append (e₀ ∷ es) l r ss e s h = climb-append (foot e₀ l r) es ss e s (omega arith)
+path_of_append : (es : List Octets) (l r : Child) (ss : List Child) (e : Octets) (s : Child) → length es ≡ suc (length ss)
+    → path_of (es ++ (e ∷ [])) l r (ss ++ (s ∷ [])) ≡ step e s (path_of es l r ss)
+path_of_append [] l r ss e s h = absurd (omega arith)
+path_of_append (e₀ ∷ es) l r ss e s h = climb_append (foot e₀ l r) es ss e s (omega arith)
 
-pub path-of-sections : (p : Path) → path-of (keys p) (foot-left p) (foot-right p) (siblings p) ≡ p
-unfolding keys siblings foot-left foot-right climb
-path-of-sections (foot e l r) = refl
-path-of-sections (step e s p) =
-    rw (path-of-append (keys p) (foot-left p) (foot-right p) (siblings p) e s (omega (arith, keys_length p, siblings-length p)), path-of-sections p)
+pub path_of_sections : (p : Path) → path_of (keys p) (foot_left p) (foot_right p) (siblings p) ≡ p
+unfolding keys siblings foot_left foot_right climb
+path_of_sections (foot e l r) = refl
+path_of_sections (step e s p) =
+    rw (path_of_append (keys p) (foot_left p) (foot_right p) (siblings p) e s (omega (arith, keys_length p, siblings_length p)), path_of_sections p)
 
-pub keys-climb : (p : Path) (es : List Octets) (ss : List Child) → length es ≡ length ss → keys (climb p es ss) ≡ keys p ++ es
+pub keys_climb : (p : Path) (es : List Octets) (ss : List Child) → length es ≡ length ss → keys (climb p es ss) ≡ keys p ++ es
 unfolding climb keys
-keys-climb p [] ss h = sym (append-nil (keys p))
-keys-climb p (e ∷ es) [] h = absurd (omega arith)
-keys-climb p (e ∷ es) (s ∷ ss) h = keys-climb (step e s p) es ss (omega arith) ∙ append_assoc (keys p) (e ∷ []) es
+keys_climb p [] ss h = sym (append-nil (keys p))
+keys_climb p (e ∷ es) [] h = absurd (omega arith)
+keys_climb p (e ∷ es) (s ∷ ss) h = keys_climb (step e s p) es ss (omega arith) ∙ append_assoc (keys p) (e ∷ []) es
 
-pub siblings-climb : (p : Path) (es : List Octets) (ss : List Child) → length es ≡ length ss → siblings (climb p es ss) ≡ siblings p ++ ss
+pub siblings_climb : (p : Path) (es : List Octets) (ss : List Child) → length es ≡ length ss → siblings (climb p es ss) ≡ siblings p ++ ss
 unfolding climb siblings
-siblings-climb p [] [] h = sym (append-nil (siblings p))
-siblings-climb p [] (s ∷ ss) h = absurd (omega arith)
-siblings-climb p (e ∷ es) [] h = absurd (omega arith)
-siblings-climb p (e ∷ es) (s ∷ ss) h = siblings-climb (step e s p) es ss (omega arith) ∙ append_assoc (siblings p) (s ∷ []) ss
+siblings_climb p [] [] h = sym (append-nil (siblings p))
+siblings_climb p [] (s ∷ ss) h = absurd (omega arith)
+siblings_climb p (e ∷ es) [] h = absurd (omega arith)
+siblings_climb p (e ∷ es) (s ∷ ss) h = siblings_climb (step e s p) es ss (omega arith) ∙ append_assoc (siblings p) (s ∷ []) ss
 
-pub foot-entry-climb : (p : Path) (es : List Octets) (ss : List Child) → foot-entry (climb p es ss) ≡ foot-entry p
-unfolding climb foot-entry
-foot-entry-climb p [] ss = refl
-foot-entry-climb p (e ∷ es) [] = refl
-foot-entry-climb p (e ∷ es) (s ∷ ss) = foot-entry-climb (step e s p) es ss
+pub foot_entry_climb : (p : Path) (es : List Octets) (ss : List Child) → foot_entry (climb p es ss) ≡ foot_entry p
+unfolding climb foot_entry
+foot_entry_climb p [] ss = refl
+foot_entry_climb p (e ∷ es) [] = refl
+foot_entry_climb p (e ∷ es) (s ∷ ss) = foot_entry_climb (step e s p) es ss
 
-pub foot-left-climb : (p : Path) (es : List Octets) (ss : List Child) → foot-left (climb p es ss) ≡ foot-left p
-unfolding climb foot-left
-foot-left-climb p [] ss = refl
-foot-left-climb p (e ∷ es) [] = refl
-foot-left-climb p (e ∷ es) (s ∷ ss) = foot-left-climb (step e s p) es ss
+pub foot_left_climb : (p : Path) (es : List Octets) (ss : List Child) → foot_left (climb p es ss) ≡ foot_left p
+unfolding climb foot_left
+foot_left_climb p [] ss = refl
+foot_left_climb p (e ∷ es) [] = refl
+foot_left_climb p (e ∷ es) (s ∷ ss) = foot_left_climb (step e s p) es ss
 
-pub foot-right-climb : (p : Path) (es : List Octets) (ss : List Child) → foot-right (climb p es ss) ≡ foot-right p
-unfolding climb foot-right
-foot-right-climb p [] ss = refl
-foot-right-climb p (e ∷ es) [] = refl
-foot-right-climb p (e ∷ es) (s ∷ ss) = foot-right-climb (step e s p) es ss
+pub foot_right_climb : (p : Path) (es : List Octets) (ss : List Child) → foot_right (climb p es ss) ≡ foot_right p
+unfolding climb foot_right
+foot_right_climb p [] ss = refl
+foot_right_climb p (e ∷ es) [] = refl
+foot_right_climb p (e ∷ es) (s ∷ ss) = foot_right_climb (step e s p) es ss
 
-pub sized-climb : (w : ℕ) (p : Path) (es : List Octets) (ss : List Child)
+pub sized_climb : (w : ℕ) (p : Path) (es : List Octets) (ss : List Child)
     → Sized w p → All (λ e. length e ≡ w) es → All Labelled ss → Sized w (climb p es ss)
 unfolding climb
-sized-climb w p [] ss z a b = z
-sized-climb w p (e ∷ es) [] z a b = z
-sized-climb w p (e ∷ es) (s ∷ ss) z a b = sized-climb w (step e s p) es ss (a.0, b.0, z) a.1 b.1
+sized_climb w p [] ss z a b = z
+sized_climb w p (e ∷ es) [] z a b = z
+sized_climb w p (e ∷ es) (s ∷ ss) z a b = sized_climb w (step e s p) es ss (a.0, b.0, z) a.1 b.1

@@ -29,23 +29,23 @@ went (stopped r) f e k = let z : ◌≡◌ {A = ℕ} 0 1 = cc in absurd (omega a
 
 -- One octet
 
-pub octet-back : (stands : ℕ → Bool) (b : ℕ) (s : Octets) → stands b ≡ true → octet stands (b ∷ s) ≡ got b s
+pub octet_back : (stands : ℕ → Bool) (b : ℕ) (s : Octets) → stands b ≡ true → octet stands (b ∷ s) ≡ got b s
 unfolding octet
-octet-back stands b s e = rw e
+octet_back stands b s e = rw e
 
-pub octet-only : (stands : ℕ → Bool) (b : ℕ) (s t : Octets) → octet stands s ≡ got b t → (s ≡ b ∷ t) × (stands b ≡ true)
+pub octet_only : (stands : ℕ → Bool) (b : ℕ) (s t : Octets) → octet stands s ≡ got b t → (s ≡ b ∷ t) × (stands b ≡ true)
 unfolding octet
-octet-only stands b [] t e = let z : ◌≡◌ {A = ℕ} 0 1 = cc in absurd (omega arith)
-octet-only stands b (c ∷ s) t e = go (stands c) refl e
+octet_only stands b [] t e = let z : ◌≡◌ {A = ℕ} 0 1 = cc in absurd (omega arith)
+octet_only stands b (c ∷ s) t e = go (stands c) refl e
   where
     go : (o : Bool) → stands c ≡ o → cond o (got c s) (stopped (wrong (length (c ∷ s)))) ≡ got b t → (c ∷ s ≡ b ∷ t) × (stands b ≡ true)
     go true h e = (cc, cc)
     go false h e = let z : ◌≡◌ {A = ℕ} 0 1 = cc in absurd (omega arith)
 
-pub close-only : {A : Type 0} (a b : A) (s t : Octets) → close a s ≡ got b t → (s ≡ []) × (a ≡ b)
+pub close_only : {A : Type 0} (a b : A) (s t : Octets) → close a s ≡ got b t → (s ≡ []) × (a ≡ b)
 unfolding close
-close-only a b [] t e = (refl, cc)
-close-only a b (c ∷ s) t e = let z : ◌≡◌ {A = ℕ} 0 1 = cc in absurd (omega arith)
+close_only a b [] t e = (refl, cc)
+close_only a b (c ∷ s) t e = let z : ◌≡◌ {A = ℕ} 0 1 = cc in absurd (omega arith)
 
 -- A reader and a writer, on the values of which P holds
 
@@ -53,9 +53,9 @@ pub record Inverse {A : Type 0} (part : Reader A) (write : A → Octets) (P : A 
   pub back : (a : A) (s : Octets) → P a → part (write a ++ s) ≡ got a s
   pub only : (a : A) (s t : Octets) → part s ≡ got a t → (s ≡ write a ++ t) × P a
 
-pub block-inverse : (n : ℕ) → Inverse (block n) (λ l. l) (λ l. length l ≡ n)
+pub block_inverse : (n : ℕ) → Inverse (block n) (λ l. l) (λ l. length l ≡ n)
 unfolding block
-block-inverse n = record {
+block_inverse n = record {
   back = λ a s h. rw (le-leb n (length (a ++ s)) (omega (arith, h, length-append a s)), take_at a s n h, drop_at a s n h);
   only = λ a s t e. go a s t (leb n (length s)) refl e;
 }
@@ -70,13 +70,13 @@ block-inverse n = record {
 
 module _ {A : Type 0} (part : Reader A) where
   -- one part, and then the others
-  pub many-next : (n : ℕ) (a : A) (s t : Octets) → part s ≡ got a t → many part (suc n) s ≡ after (many part n t) (λ l. give (a ∷ l))
+  pub many_next : (n : ℕ) (a : A) (s t : Octets) → part s ≡ got a t → many part (suc n) s ≡ after (many part n t) (λ l. give (a ∷ l))
   unfolding many
-  many-next n a s t e = rw e
+  many_next n a s t e = rw e
 
-  pub many-stop : (n : ℕ) (s : Octets) (r : Stop) → part s ≡ stopped r → many part (suc n) s ≡ stopped r
+  pub many_stop : (n : ℕ) (s : Octets) (r : Stop) → part s ≡ stopped r → many part (suc n) s ≡ stopped r
   unfolding many
-  many-stop n s r e = rw e
+  many_stop n s r e = rw e
 
   -- what was read of the first, and of the others
   pub record First (n : ℕ) (l : List A) (s t : Octets) : Type 0 where
@@ -87,9 +87,9 @@ module _ {A : Type 0} (part : Reader A) where
     pub then : many part n rest ≡ got others t
     pub is : l ≡ first ∷ others
 
-  pub many-first : (n : ℕ) (l : List A) (s t : Octets) → many part (suc n) s ≡ got l t → First n l s t
+  pub many_first : (n : ℕ) (l : List A) (s t : Octets) → many part (suc n) s ≡ got l t → First n l s t
   unfolding many
-  many-first n l s t e =
+  many_first n l s t e =
       went (part s) (λ a. many part n >>= (λ m. give (a ∷ m))) e λ a r u v.
       went (many part n r) (λ m. give (a ∷ m)) v λ m t' x y.
       record {
@@ -102,13 +102,13 @@ module _ {A : Type 0} (part : Reader A) where
       }
 
 module _ {A : Type 0} (part : Reader A) (write : A → Octets) (P : A → Type 0) (i : Inverse part write P) where
-  pub many-back : (n : ℕ) (l : List A) (s : Octets) → length l ≡ n → All P l → many part n (flatten (map write l) ++ s) ≡ got l s
+  pub many_back : (n : ℕ) (l : List A) (s : Octets) → length l ≡ n → All P l → many part n (flatten (map write l) ++ s) ≡ got l s
   unfolding many flatten
-  many-back zero [] s e h = refl
-  many-back zero (a ∷ l) s e h = absurd (omega arith)
-  many-back (suc n) [] s e h = absurd (omega arith)
-  many-back (suc n) (a ∷ l) s e h =
-      rw (append_assoc, i.back a (flatten (map write l) ++ s) h.0, many-back n l s (omega arith) h.1)
+  many_back zero [] s e h = refl
+  many_back zero (a ∷ l) s e h = absurd (omega arith)
+  many_back (suc n) [] s e h = absurd (omega arith)
+  many_back (suc n) (a ∷ l) s e h =
+      rw (append_assoc, i.back a (flatten (map write l) ++ s) h.0, many_back n l s (omega arith) h.1)
 
   -- n parts were taken off the front of s, and t is left
   pub record Taken (n : ℕ) (l : List A) (s t : Octets) : Type 0 where
@@ -116,16 +116,16 @@ module _ {A : Type 0} (part : Reader A) (write : A → Octets) (P : A → Type 0
     pub all : All P l
     pub count : length l ≡ n
 
-  pub many-only : (n : ℕ) (l : List A) (s t : Octets) → many part n s ≡ got l t → Taken n l s t
+  pub many_only : (n : ℕ) (l : List A) (s t : Octets) → many part n s ≡ got l t → Taken n l s t
   unfolding many flatten
-  many-only zero l s t e =
+  many_only zero l s t e =
       let p : l ≡ [] = cc in
       let q : s ≡ t = cc in
       record { is = rw (p, q); all = rw p tt; count = rw p }
-  many-only (suc n) l s t e =
+  many_only (suc n) l s t e =
       went (part s) (λ a. many part n >>= (λ m. give (a ∷ m))) e λ a r u v.
       went (many part n r) (λ m. give (a ∷ m)) v λ m t' x y.
-      let c = many-only n m r t' x in
+      let c = many_only n m r t' x in
       let p : l ≡ a ∷ m = cc in
       let q : t ≡ t' = cc in
       let d = i.only a s r u in

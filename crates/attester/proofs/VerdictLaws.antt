@@ -6,103 +6,103 @@ use mathlib.Core.Option.{Option, none, some}
 use Prim.Native.Nat.{Ordering}
 use Prim.Native.Nat.{ℕ, suc, ◌≤◌, ◌<◌}
 use native.Mathlib.Omega.{arith}
-use Rattle.answer.specs.Refusals.{child-at-foot, key_above, other-digest}
+use Rattle.answer.specs.Refusals.{child_at_foot, key_above, other_digest}
 use Rattle.octets.specs.Order.{Octets, same}
-use Rattle.octets.proofs.OrderLaws.{order-eq, same_true, same_refl}
+use Rattle.octets.proofs.OrderLaws.{order_eq, same_true, same_refl}
 use Rattle.attester.specs.Entry.{key}
 use Rattle.attester.specs.Record.{Child}
-use Rattle.attester.specs.Path.{Path, foot, step, top, foot-entry, height}
-use Rattle.attester.specs.Verdict.{present, absent, refused, Accepted, side, hidden, lowest, fault, unless-fault, root-record, judge}
+use Rattle.attester.specs.Path.{Path, foot, step, top, foot_entry, height}
+use Rattle.attester.specs.Verdict.{present, absent, refused, Accepted, side, hidden, lowest, fault, unless_fault, root_record, judge}
 
 -- Where x stands, and whether it is the key
 
-pub side-eq : (x e : Octets) → side x e ≡ Ordering.eq → x ≡ key e
+pub side_eq : (x e : Octets) → side x e ≡ Ordering.eq → x ≡ key e
 unfolding side
-side-eq x e h = order-eq x (key e) h
+side_eq x e h = order_eq x (key e) h
 
-pub side-same-lt : (x e : Octets) → side x e ≡ Ordering.lt → same x (key e) ≡ false
+pub side_same_lt : (x e : Octets) → side x e ≡ Ordering.lt → same x (key e) ≡ false
 unfolding side same
-side-same-lt x e h = rw h
+side_same_lt x e h = rw h
 
-pub side-same-eq : (x e : Octets) → side x e ≡ Ordering.eq → same x (key e) ≡ true
+pub side_same_eq : (x e : Octets) → side x e ≡ Ordering.eq → same x (key e) ≡ true
 unfolding side same
-side-same-eq x e h = rw h
+side_same_eq x e h = rw h
 
-pub side-same-gt : (x e : Octets) → side x e ≡ Ordering.gt → same x (key e) ≡ false
+pub side_same_gt : (x e : Octets) → side x e ≡ Ordering.gt → same x (key e) ≡ false
 unfolding side same
-side-same-gt x e h = rw h
+side_same_gt x e h = rw h
 
 -- The steps
 
 module _ (H : Octets → Octets) (x d : Octets) (p : Path) where
-  pub judge-hidden : hidden x p ≡ true → judge H x d p ≡ refused child-at-foot 0
+  pub judge_hidden : hidden x p ≡ true → judge H x d p ≡ refused child_at_foot 0
   unfolding judge
-  judge-hidden h = rw h
+  judge_hidden h = rw h
 
-  module _ (open-foot : hidden x p ≡ false) where
-    pub judge-fault : (j : ℕ) → fault x p ≡ some j → judge H x d p ≡ refused key_above j
+  module _ (open_foot : hidden x p ≡ false) where
+    pub judge_fault : (j : ℕ) → fault x p ≡ some j → judge H x d p ≡ refused key_above j
     unfolding judge
-    judge-fault j f = rw (open-foot, f)
+    judge_fault j f = rw (open_foot, f)
 
     module _ (faultless : fault x p ≡ none) where
-      pub judge-other : same (H (root-record H x p)) d ≡ false → judge H x d p ≡ refused other-digest 0
+      pub judge_other : same (H (root_record H x p)) d ≡ false → judge H x d p ≡ refused other_digest 0
       unfolding judge
-      judge-other s = rw (open-foot, faultless, s)
+      judge_other s = rw (open_foot, faultless, s)
 
-      pub judge-accepts : same (H (root-record H x p)) d ≡ true → judge H x d p ≡ cond (same x (key (foot-entry p))) present absent
+      pub judge_accepts : same (H (root_record H x p)) d ≡ true → judge H x d p ≡ cond (same x (key (foot_entry p))) present absent
       unfolding judge
-      judge-accepts s = rw (open-foot, faultless, s)
+      judge_accepts s = rw (open_foot, faultless, s)
 
 -- a path that was accepted passed each step
 pub record Passed (H : Octets → Octets) (x d : Octets) (p : Path) : Type 0 where
-  pub open-foot : hidden x p ≡ false
+  pub open_foot : hidden x p ≡ false
   pub faultless : fault x p ≡ none
-  pub hashes : H (root-record H x p) ≡ d
-  pub answer : judge H x d p ≡ cond (same x (key (foot-entry p))) present absent
+  pub hashes : H (root_record H x p) ≡ d
+  pub answer : judge H x d p ≡ cond (same x (key (foot_entry p))) present absent
 
-pub judge-passed : (H : Octets → Octets) (x d : Octets) (p : Path) → Accepted (judge H x d p) → Passed H x d p
+pub judge_passed : (H : Octets → Octets) (x d : Octets) (p : Path) → Accepted (judge H x d p) → Passed H x d p
 unfolding judge
-judge-passed H x d p h = go (hidden x p) (fault x p) (same (H (root-record H x p)) d) refl refl refl h
+judge_passed H x d p h = go (hidden x p) (fault x p) (same (H (root_record H x p)) d) refl refl refl h
   where
-    go : (o : Bool) (f : Option ℕ) (s : Bool) → hidden x p ≡ o → fault x p ≡ f → same (H (root-record H x p)) d ≡ s
-        → Accepted (cond o (refused child-at-foot 0) (unless-fault f (cond s (cond (same x (key (foot-entry p))) present absent) (refused other-digest 0))))
+    go : (o : Bool) (f : Option ℕ) (s : Bool) → hidden x p ≡ o → fault x p ≡ f → same (H (root_record H x p)) d ≡ s
+        → Accepted (cond o (refused child_at_foot 0) (unless_fault f (cond s (cond (same x (key (foot_entry p))) present absent) (refused other_digest 0))))
         → Passed H x d p
     go true f s a b c t = absurd t
     go false (some j) s a b c t = absurd t
     go false none false a b c t = absurd t
     go false none true a b c t = record {
-      open-foot = a;
+      open_foot = a;
       faultless = b;
-      hashes = same_true (H (root-record H x p)) d c;
-      answer = judge-accepts H x d p a b c;
+      hashes = same_true (H (root_record H x p)) d c;
+      answer = judge_accepts H x d p a b c;
     }
 
 -- under the label that it hashes to
-pub judge-own : (H : Octets → Octets) (x : Octets) (p : Path) → hidden x p ≡ false → fault x p ≡ none
-    → judge H x (H (root-record H x p)) p ≡ cond (same x (key (foot-entry p))) present absent
-judge-own H x p a b = judge-accepts H x (H (root-record H x p)) p a b (same_refl (H (root-record H x p)))
+pub judge_own : (H : Octets → Octets) (x : Octets) (p : Path) → hidden x p ≡ false → fault x p ≡ none
+    → judge H x (H (root_record H x p)) p ≡ cond (same x (key (foot_entry p))) present absent
+judge_own H x p a b = judge_accepts H x (H (root_record H x p)) p a b (same_refl (H (root_record H x p)))
 
 -- Step 4, one level up
 
 module _ (x e : Octets) (s : Child) (p : Path) (clean : fault x p ≡ none) where
   -- x = kj
-  pub fault-key : same x (key e) ≡ true → fault x (step e s p) ≡ some (suc (height p))
+  pub fault_key : same x (key e) ≡ true → fault x (step e s p) ≡ some (suc (height p))
   unfolding fault
-  fault-key h = rw (clean, h)
+  fault_key h = rw (clean, h)
 
   -- k(j-1) = kj
-  pub fault-equal : same (key (top p)) (key e) ≡ true → fault x (step e s p) ≡ some (suc (height p))
+  pub fault_equal : same (key (top p)) (key e) ≡ true → fault x (step e s p) ≡ some (suc (height p))
   unfolding fault
-  fault-equal h = rw (clean, h, or-true (same x (key e)))
+  fault_equal h = rw (clean, h, or-true (same x (key e)))
 
-  pub fault-none : same x (key e) ≡ false → same (key (top p)) (key e) ≡ false → fault x (step e s p) ≡ none
+  pub fault_none : same x (key e) ≡ false → same (key (top p)) (key e) ≡ false → fault x (step e s p) ≡ none
   unfolding fault
-  fault-none h k = rw (clean, h, k)
+  fault_none h k = rw (clean, h, k)
 
 -- where step 4 finds no fault, it finds none one level down, and x is not the key
-pub fault-below : (x e : Octets) (s : Child) (p : Path) → fault x (step e s p) ≡ none → (fault x p ≡ none) × (same x (key e) ≡ false)
+pub fault_below : (x e : Octets) (s : Child) (p : Path) → fault x (step e s p) ≡ none → (fault x p ≡ none) × (same x (key e) ≡ false)
 unfolding fault
-fault-below x e s p h = go (fault x p) (same x (key e)) (same (key (top p)) (key e)) h
+fault_below x e s p h = go (fault x p) (same x (key e)) (same (key (top p)) (key e)) h
   where
     go : (o : Option ℕ) (a b : Bool) → lowest o (a || b) (suc (height p)) ≡ none → (o ≡ none) × (a ≡ false)
     go (some i) a b k = let z : ◌≡◌ {A = ℕ} 0 1 = cc in absurd (omega arith)
@@ -110,11 +110,11 @@ fault-below x e s p h = go (fault x p) (same x (key e)) (same (key (top p)) (key
     go none false b k = (refl, refl)
 
 -- the foot is on no level above itself
-pub fault-above : (x : Octets) (p : Path) (j : ℕ) → fault x p ≡ some j → 0 < j
+pub fault_above : (x : Octets) (p : Path) (j : ℕ) → fault x p ≡ some j → 0 < j
 unfolding fault
-fault-above x (foot e l r) j h = let z : ◌≡◌ {A = ℕ} 0 1 = cc in absurd (omega arith)
-fault-above x (step e s p) j h =
-    go (fault x p) (same x (key e) || same (key (top p)) (key e)) (fault-above x p j) h
+fault_above x (foot e l r) j h = let z : ◌≡◌ {A = ℕ} 0 1 = cc in absurd (omega arith)
+fault_above x (step e s p) j h =
+    go (fault x p) (same x (key e) || same (key (top p)) (key e)) (fault_above x p j) h
   where
     go : (o : Option ℕ) (b : Bool) → (o ≡ some j → 0 < j) → lowest o b (suc (height p)) ≡ some j → 0 < j
     go (some i) b g k = g k
@@ -122,11 +122,11 @@ fault-above x (step e s p) j h =
     go none false g k = let z : ◌≡◌ {A = ℕ} 0 1 = cc in absurd (omega arith)
 
 -- and no level is above the root
-pub fault-height : (x : Octets) (p : Path) (j : ℕ) → fault x p ≡ some j → j ≤ height p
+pub fault_height : (x : Octets) (p : Path) (j : ℕ) → fault x p ≡ some j → j ≤ height p
 unfolding fault height
-fault-height x (foot e l r) j h = let z : ◌≡◌ {A = ℕ} 0 1 = cc in absurd (omega arith)
-fault-height x (step e s p) j h =
-    go (fault x p) (same x (key e) || same (key (top p)) (key e)) (fault-height x p j) h
+fault_height x (foot e l r) j h = let z : ◌≡◌ {A = ℕ} 0 1 = cc in absurd (omega arith)
+fault_height x (step e s p) j h =
+    go (fault x p) (same x (key e) || same (key (top p)) (key e)) (fault_height x p j) h
   where
     go : (o : Option ℕ) (b : Bool) → (o ≡ some j → j ≤ height p) → lowest o b (suc (height p)) ≡ some j → j ≤ suc (height p)
     go (some i) b g k = omega (arith, g k)

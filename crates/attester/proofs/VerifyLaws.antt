@@ -13,52 +13,52 @@ use Rattle.attester.specs.Form.{Form, formed, ended, spoilt, form}
 use Rattle.attester.specs.Attestation.{render}
 use Rattle.attester.specs.Verify.{judged, verify}
 use Rattle.attester.proofs.Sizes.{Sized}
-use Rattle.attester.proofs.FormLaws.{and_both, Rendered, form-rendered, form-of-render}
+use Rattle.attester.proofs.FormLaws.{and_both, Rendered, form_rendered, form_of_render}
 
 module _ (H : Octets → Octets) (w : ℕ) (x d a : Octets) where
-  pub verify-key-size : (length x ≡ 20 → ⊥) → verify H w x d a ≡ refused refusal.size 0
+  pub verify_key_size : (length x ≡ 20 → ⊥) → verify H w x d a ≡ refused refusal.size 0
   unfolding verify
-  verify-key-size n = rw (ne_eqb (length x) 20 n)
+  verify_key_size n = rw (ne_eqb (length x) 20 n)
 
   module _ (n : length x ≡ 20) where
-    pub verify-digest-size : (length d ≡ 32 → ⊥) → verify H w x d a ≡ refused refusal.size 0
+    pub verify_digest_size : (length d ≡ 32 → ⊥) → verify H w x d a ≡ refused refusal.size 0
     unfolding verify
-    verify-digest-size m = rw (eq-eqb (length x) 20 n, ne_eqb (length d) 32 m)
+    verify_digest_size m = rw (eq-eqb (length x) 20 n, ne_eqb (length d) 32 m)
 
     module _ (m : length d ≡ 32) where
-      pub verify-form : verify H w x d a ≡ judged (judge H x d) (form w a)
+      pub verify_form : verify H w x d a ≡ judged (judge H x d) (form w a)
       unfolding verify
-      verify-form = rw (eq-eqb (length x) 20 n, eq-eqb (length d) 32 m)
+      verify_form = rw (eq-eqb (length x) 20 n, eq-eqb (length d) 32 m)
 
-      pub verify-ended : (j : ℕ) → form w a ≡ ended j → verify H w x d a ≡ refused refusal.form j
+      pub verify_ended : (j : ℕ) → form w a ≡ ended j → verify H w x d a ≡ refused refusal.form j
       unfolding judged
-      verify-ended j f = rw (verify-form, f)
+      verify_ended j f = rw (verify_form, f)
 
-      pub verify-spoilt : (j : ℕ) → form w a ≡ spoilt j → verify H w x d a ≡ refused refusal.form j
+      pub verify_spoilt : (j : ℕ) → form w a ≡ spoilt j → verify H w x d a ≡ refused refusal.form j
       unfolding judged
-      verify-spoilt j f = rw (verify-form, f)
+      verify_spoilt j f = rw (verify_form, f)
 
-      pub verify-formed : (p : Path) → form w a ≡ formed p → verify H w x d a ≡ judge H x d p
+      pub verify_formed : (p : Path) → form w a ≡ formed p → verify H w x d a ≡ judge H x d p
       unfolding judged
-      verify-formed p f = rw (verify-form, f)
+      verify_formed p f = rw (verify_form, f)
 
 -- the verdict on a rendered path is the verdict on the path
-pub verify-rendered : (H : Octets → Octets) (w : ℕ) (x d : Octets) (p : Path) → length x ≡ 20 → length d ≡ 32 → Sized w p → height p < 32
+pub verify_rendered : (H : Octets → Octets) (w : ℕ) (x d : Octets) (p : Path) → length x ≡ 20 → length d ≡ 32 → Sized w p → height p < 32
     → verify H w x d (render p) ≡ judge H x d p
-verify-rendered H w x d p n m z h = verify-formed H w x d (render p) n m p (form-of-render w p z h)
+verify_rendered H w x d p n m z h = verify_formed H w x d (render p) n m p (form_of_render w p z h)
 
 -- octets that are accepted: the sizes of step 1, the path of step 2, and the verdict on it
 pub record Verified (H : Octets → Octets) (w : ℕ) (x d a : Octets) : Type 0 where
-  pub key-size : length x ≡ 20
-  pub digest-size : length d ≡ 32
+  pub key_size : length x ≡ 20
+  pub digest_size : length d ≡ 32
   pub path : Path
   pub reads : form w a ≡ formed path
   pub rendered : Rendered w a path
   pub answer : verify H w x d a ≡ judge H x d path
 
-pub verify-accepted : (H : Octets → Octets) (w : ℕ) (x d a : Octets) → Accepted (verify H w x d a) → Verified H w x d a
+pub verify_accepted : (H : Octets → Octets) (w : ℕ) (x d a : Octets) → Accepted (verify H w x d a) → Verified H w x d a
 unfolding verify judged
-verify-accepted H w x d a h = go (eqb (length x) 20 && eqb (length d) 32) (form w a) refl refl h
+verify_accepted H w x d a h = go (eqb (length x) 20 && eqb (length d) 32) (form w a) refl refl h
   where
     go : (o : Bool) (f : Form) → (eqb (length x) 20 && eqb (length d) 32) ≡ o → form w a ≡ f
         → Accepted (cond o (judged (judge H x d) f) (refused refusal.size 0)) → Verified H w x d a
@@ -70,10 +70,10 @@ verify-accepted H w x d a h = go (eqb (length x) 20 && eqb (length d) 32) (form 
         let n : length x ≡ 20 = eqb-true (length x) 20 b.0 in
         let m : length d ≡ 32 = eqb-true (length d) 32 b.1 in
         record {
-          key-size = n;
-          digest-size = m;
+          key_size = n;
+          digest_size = m;
           path = p;
           reads = g;
-          rendered = form-rendered w a p g;
-          answer = verify-formed H w x d a n m p g;
+          rendered = form_rendered w a p g;
+          answer = verify_formed H w x d a n m p g;
         }

@@ -1,9 +1,9 @@
 -- The extractor (01, "Extractor"), over any function H from records to labels and entries of w octets.
 use Rattle.std.specs.Prelude.{Bool, cond, ◌&&◌, ℕ, eqb, length}
 use Rattle.std.proofs.Math.Option.{Option, none, some}
-use Rattle.answer.specs.Refusals.{size, no-contradiction}
+use Rattle.answer.specs.Refusals.{size, no_contradiction}
 use Rattle.octets.specs.Order.{Octets}
-use Rattle.attester.specs.Record.{record-size}
+use Rattle.attester.specs.Record.{record_size}
 use Rattle.attester.specs.Verdict.{Judgement, present, absent}
 use Rattle.attester.specs.Verdict as verdict
 use Rattle.attester.specs.Form.{shown}
@@ -18,7 +18,7 @@ pub data Extraction : Type 0 where
 -- 01: where the verdicts differ, what the walk found; it always finds a level there (`Demand3`)
 abbrev pub shows : Option Found → Extraction
 shows (some f) = extracted f
-shows none = refused no-contradiction 0
+shows none = refused no_contradiction 0
 
 -- 01: "the first attestation's refusal; the second's; both the same verdict (11)"; "that refusal's number, with place 1 or 2 for
 -- which attestation"
@@ -26,14 +26,14 @@ unfoldable pub contradiction : Judgement → Judgement → Option Found → Extr
 contradiction (verdict.refused m p) v f = refused m 1
 contradiction present (verdict.refused m p) f = refused m 2
 contradiction absent (verdict.refused m p) f = refused m 2
-contradiction present present f = refused no-contradiction 0
-contradiction absent absent f = refused no-contradiction 0
+contradiction present present f = refused no_contradiction 0
+contradiction absent absent f = refused no_contradiction 0
 contradiction present absent f = shows f
 contradiction absent present f = shows f
 
 -- 01: "x, d or a buffer not of its size, the buffers exactly 85 octets (1)": whether the four lengths are right
 unfoldable pub sized : ℕ → ℕ → ℕ → ℕ → ℕ → Bool
-sized w x d n m = eqb x 20 && (eqb d 32 && (eqb n (record-size w) && eqb m (record-size w)))
+sized w x d n m = eqb x 20 && (eqb d 32 && (eqb n (record_size w) && eqb m (record_size w)))
 
 -- 01: the sizes first, then the two verdicts; the buffers have n and m octets
 unfoldable pub extract : (Octets → Octets) → ℕ → Octets → Octets → Octets → Octets → ℕ → ℕ → Extraction

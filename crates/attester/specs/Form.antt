@@ -26,24 +26,24 @@ climb p (e ∷ es) [] = p
 climb p (e ∷ es) (s ∷ ss) = climb (step e s p) es ss
 
 -- the path of the four sections: "k0 to km", the foot's two children, the siblings
-abbrev pub path-of : List Octets → Child → Child → List Child → Path
-path-of [] l r ss = foot [] l r
-path-of (e ∷ es) l r ss = climb (foot e l r) es ss
+abbrev pub path_of : List Octets → Child → Child → List Child → Path
+path_of [] l r ss = foot [] l r
+path_of (e ∷ es) l r ss = climb (foot e l r) es ss
 
 -- 01: "count K, one octet, 1 to 32"
-unfoldable pub is-count : ℕ → Bool
-is-count k = leb 1 k && leb k 32
+unfoldable pub is_count : ℕ → Bool
+is_count k = leb 1 k && leb k 32
 
 -- 01: the four sections, the siblings' count "equal to K - 1"; "No octets follow."
 unfoldable pub sections : ℕ → Reader Path
 sections w = do
-  k ← octet is-count
+  k ← octet is_count
   es ← many (block w) k
   l ← optional
   r ← optional
   m ← octet (λ m. eqb m (k - 1))
   ss ← many optional m
-  close (path-of es l r ss)
+  close (path_of es l r ss)
 
 -- the path that was read; or the length, where the octets end early; or the offset of the first that can't stand there
 pub data Form : Type 0 where
@@ -62,11 +62,11 @@ unfoldable pub form : ℕ → Octets → Form
 form w a = placed (length a) (sections w a)
 
 -- the path that was read; a foot of nothing where none was
-abbrev pub path-read : Form → Path
-path-read (formed p) = p
-path-read (ended n) = foot [] none none
-path-read (spoilt n) = foot [] none none
+abbrev pub path_read : Form → Path
+path_read (formed p) = p
+path_read (ended n) = foot [] none none
+path_read (spoilt n) = foot [] none none
 
 -- the path that octets of the form show
 unfoldable pub shown : ℕ → Octets → Path
-shown w a = path-read (form w a)
+shown w a = path_read (form w a)

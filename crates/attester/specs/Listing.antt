@@ -20,7 +20,7 @@ Ascending (e ∷ es) = Each (Below e) es × Ascending es
 
 -- 01: 1 to `most` entries of w octets, their keys strictly ascending
 pub record Listing (w most : ℕ) (es : List Octets) : Type 0 where
-  pub some-entry : 0 < length es
+  pub some_entry : 0 < length es
   pub few : length es ≤ most
   pub sized : Each (λ e. length e ≡ w) es
   pub ascending : Ascending es

@@ -14,19 +14,19 @@ top (foot e l r) = e
 top (step e s p) = e
 
 -- 01: k0, at the foot
-unfoldable pub foot-entry : Path → Octets
-foot-entry (foot e l r) = e
-foot-entry (step e s p) = foot-entry p
+unfoldable pub foot_entry : Path → Octets
+foot_entry (foot e l r) = e
+foot_entry (step e s p) = foot_entry p
 
 -- 01, section "foot, left"
-unfoldable pub foot-left : Path → Child
-foot-left (foot e l r) = l
-foot-left (step e s p) = foot-left p
+unfoldable pub foot_left : Path → Child
+foot_left (foot e l r) = l
+foot_left (step e s p) = foot_left p
 
 -- 01, section "foot, right"
-unfoldable pub foot-right : Path → Child
-foot-right (foot e l r) = r
-foot-right (step e s p) = foot-right p
+unfoldable pub foot_right : Path → Child
+foot_right (foot e l r) = r
+foot_right (step e s p) = foot_right p
 
 -- 01: m = K - 1, the number of keys above the foot
 unfoldable pub height : Path → ℕ

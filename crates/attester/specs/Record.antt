@@ -21,14 +21,14 @@ unfoldable pub flag : Child → Child → ℕ
 flag l r = bit l + 2 * bit r
 
 -- 01: "an absent child's label is 32 zeros"
-unfoldable pub child-octets : Child → Octets
-child-octets none = replicate 32 0
-child-octets (some l) = l
+unfoldable pub child_octets : Child → Octets
+child_octets none = replicate 32 0
+child_octets (some l) = l
 
 -- 01: octet 0, the left child's label, the key (an entry, where it is more than its key), the right child's label
-unfoldable pub node-record : Child → Octets → Child → Octets
-node-record l e r = flag l r ∷ (child-octets l ++ (e ++ child-octets r))
+unfoldable pub node_record : Child → Octets → Child → Octets
+node_record l e r = flag l r ∷ (child_octets l ++ (e ++ child_octets r))
 
 -- 01: "A node record is 85 octets", of an entry that has 20
-abbrev pub record-size : ℕ → ℕ
-record-size w = 65 + w
+abbrev pub record_size : ℕ → ℕ
+record_size w = 65 + w

@@ -9,15 +9,15 @@ pub data Tree : Type 0 where
 
 -- 01: the root is the entry at floor(n / 2), those before it form the left subtree, those after it the right.
 -- The first number bounds how deep the rule is followed.
-unfoldable pub tree-within : ℕ → List Octets → Tree
-tree-within zero es = leaf
-tree-within (suc d) [] = leaf
-tree-within (suc d) (e ∷ es) =
-    node (tree-within d (take (length (e ∷ es) / 2) (e ∷ es)))
+unfoldable pub tree_within : ℕ → List Octets → Tree
+tree_within zero es = leaf
+tree_within (suc d) [] = leaf
+tree_within (suc d) (e ∷ es) =
+    node (tree_within d (take (length (e ∷ es) / 2) (e ∷ es)))
     (get_or (e ∷ es) (length (e ∷ es) / 2) [])
-    (tree-within d (drop (suc (length (e ∷ es) / 2)) (e ∷ es)))
+    (tree_within d (drop (suc (length (e ∷ es) / 2)) (e ∷ es)))
 
 -- 01: the tree of a list; no tree is deeper than its entries are many
 unfoldable pub tree : List Octets → Tree
-unfolding tree-within
-tree es = tree-within (length es) es
+unfolding tree_within
+tree es = tree_within (length es) es

@@ -11,32 +11,32 @@ use lib.ListN.{length, take, drop, length-append}
 use Rattle.answer.specs.declared.Answer.TheVariants.{Done}
 use Rattle.octets.specs.Order.{Octets, same}
 use Rattle.codes.specs.Code.{key_of}
-use Rattle.codes.specs.Count.{is-count, number}
-use Rattle.codes.specs.Text.{Reading, accepted, refused, ended, line, rest, fault, more, codes, counted, second-line, opening, reading}
+use Rattle.codes.specs.Count.{is_count, number}
+use Rattle.codes.specs.Text.{Reading, accepted, refused, ended, line, rest, fault, more, codes, counted, second_line, opening, reading}
 use Rattle.codes.specs.Read.{answer, keys}
 use Rattle.codes.proofs.Tests.{both, passed, held}
-use Rattle.codes.proofs.CodeLaws.{key-of-length}
-use Rattle.codes.proofs.TextLaws.{code-parts, sound-line, opens-length}
+use Rattle.codes.proofs.CodeLaws.{key_of_length}
+use Rattle.codes.proofs.TextLaws.{code_parts, sound_line, opens_length}
 
 pub record Accepted (room : ℕ) (s : Octets) (ks : List Octets) : Type 0 where
   pub short : length s ≤ 65535
   pub opens : same (take 6 s) opening ≡ true
   pub second_ended : ended (drop 6 s) ≡ true
-  pub count : is-count (line (drop 6 s)) ≡ true
-  pub some-codes : 0 < number (line (drop 6 s))
+  pub count : is_count (line (drop 6 s)) ≡ true
+  pub some_codes : 0 < number (line (drop 6 s))
   pub few : number (line (drop 6 s)) ≤ 3000
   pub fits : 20 * number (line (drop 6 s)) ≤ room
   pub body : codes (number (line (drop 6 s))) 3 none (rest (drop 6 s)) ≡ accepted ks
 
-pub reading-accepted : (room : ℕ) (s : Octets) {ks : List Octets} → reading room s ≡ accepted ks → Accepted room s ks
-unfolding reading second-line counted
-reading-accepted room s {ks} e =
+pub reading_accepted : (room : ℕ) (s : Octets) {ks : List Octets} → reading room s ≡ accepted ks → Accepted room s ks
+unfolding reading second_line counted
+reading_accepted room s {ks} e =
     let s₂ = drop 6 s in
     let n = number (line s₂) in
     let h₁ = passed (ltb 65535 (length s)) 1 0 _ e in
     let h₂ = held (same (take 6 s) opening) 12 1 _ h₁.1 in
-    let h₃ = held (ended s₂ && is-count (line s₂)) 12 2 _ h₂.1 in
-    let b = both (ended s₂) (is-count (line s₂)) h₃.0 in
+    let h₃ = held (ended s₂ && is_count (line s₂)) 12 2 _ h₂.1 in
+    let b = both (ended s₂) (is_count (line s₂)) h₃.0 in
     let h₄ = passed (eqb n 0) 2 2 _ h₃.1 in
     let h₅ = passed (ltb 3000 n) 4 2 _ h₄.1 in
     let h₆ = passed (ltb room (20 * n)) 6 0 _ h₅.1 in
@@ -46,7 +46,7 @@ reading-accepted room s {ks} e =
       opens = h₂.0;
       second_ended = b.0;
       count = b.1;
-      some-codes = omega arith;
+      some_codes = omega arith;
       few = ltb-false 3000 n h₅.0;
       fits = ltb-false room (20 * n) h₆.0;
       body = h₆.1;
@@ -57,10 +57,10 @@ pub record Told (r : Reading) (n : ℕ) : Type 0 where
   pub is : r ≡ accepted those
   pub many : length those ≡ n
 
-pub answer-done : (r : Reading) (n : ℕ) → answer r ≡ Done n → Told r n
+pub answer_done : (r : Reading) (n : ℕ) → answer r ≡ Done n → Told r n
 unfolding answer
-answer-done (accepted ks) n e = record { those = ks; is = refl; many = cc }
-answer-done (refused m p) n e = let z : ◌≡◌ {A = ℕ} 0 1 = cc in absurd (omega arith)
+answer_done (accepted ks) n e = record { those = ks; is = refl; many = cc }
+answer_done (refused m p) n e = let z : ◌≡◌ {A = ℕ} 0 1 = cc in absurd (omega arith)
 
 -- Code lines, one by one
 
@@ -69,10 +69,10 @@ pub record Front (k : Octets) (r : Reading) (ks : List Octets) : Type 0 where
   pub is : r ≡ accepted others
   pub whole : ks ≡ k ∷ others
 
-pub more-accepted : (k : Octets) (r : Reading) (ks : List Octets) → more k r ≡ accepted ks → Front k r ks
+pub more_accepted : (k : Octets) (r : Reading) (ks : List Octets) → more k r ≡ accepted ks → Front k r ks
 unfolding more
-more-accepted k (accepted js) ks e = record { others = js; is = refl; whole = cc }
-more-accepted k (refused m p) ks e = let z : ◌≡◌ {A = ℕ} 0 1 = cc in absurd (omega arith)
+more_accepted k (accepted js) ks e = record { others = js; is = refl; whole = cc }
+more_accepted k (refused m p) ks e = let z : ◌≡◌ {A = ℕ} 0 1 = cc in absurd (omega arith)
 
 -- n lines of at most 20 octets, each ended
 abbrev pub Sound : ℕ → Octets → Type 0
@@ -80,30 +80,30 @@ Sound zero s = Unit {0}
 Sound (suc n) s = (ended s ≡ true) × (length (line s) ≤ 20) × Sound n (rest s)
 
 -- the keys of n lines
-unfoldable pub line-keys : ℕ → Octets → List Octets
-line-keys zero s = []
-line-keys (suc n) s = key_of (line s) ∷ line-keys n (rest s)
+unfoldable pub line_keys : ℕ → Octets → List Octets
+line_keys zero s = []
+line_keys (suc n) s = key_of (line s) ∷ line_keys n (rest s)
 
-pub line-keys-length : (n : ℕ) (s : Octets) → length (line-keys n s) ≡ n
-unfolding line-keys
-line-keys-length zero s = refl
-line-keys-length (suc n) s = ap suc (line-keys-length n (rest s))
+pub line_keys_length : (n : ℕ) (s : Octets) → length (line_keys n s) ≡ n
+unfolding line_keys
+line_keys_length zero s = refl
+line_keys_length (suc n) s = ap suc (line_keys_length n (rest s))
 
-pub codes-sound : (n p : ℕ) (b : Option Octets) (s : Octets) (ks : List Octets) → codes n p b s ≡ accepted ks → Sound n s × (ks ≡ line-keys n s)
-unfolding codes line-keys
-codes-sound zero p b [] ks e = (tt, cc)
-codes-sound zero p b (c ∷ s) ks e = let z : ◌≡◌ {A = ℕ} 0 1 = cc in absurd (omega arith)
-codes-sound (suc n) p b s ks e =
+pub codes_sound : (n p : ℕ) (b : Option Octets) (s : Octets) (ks : List Octets) → codes n p b s ≡ accepted ks → Sound n s × (ks ≡ line_keys n s)
+unfolding codes line_keys
+codes_sound zero p b [] ks e = (tt, cc)
+codes_sound zero p b (c ∷ s) ks e = let z : ◌≡◌ {A = ℕ} 0 1 = cc in absurd (omega arith)
+codes_sound (suc n) p b s ks e =
     let h = held (eqb (fault b s) 0) (fault b s) p _ e in
-    let l = sound-line b s (eqb-true (fault b s) 0 h.0) in
-    let m = more-accepted (key_of (line s)) (codes n (suc p) (some (key_of (line s))) (rest s)) ks h.1 in
-    let t = codes-sound n (suc p) (some (key_of (line s))) (rest s) m.others m.is in
-    ((l.is-ended, (code-parts (line s) l.code).few, t.0), m.whole ∙ ap (λ (js : List Octets). key_of (line s) ∷ js) t.1)
+    let l = sound_line b s (eqb-true (fault b s) 0 h.0) in
+    let m = more_accepted (key_of (line s)) (codes n (suc p) (some (key_of (line s))) (rest s)) ks h.1 in
+    let t = codes_sound n (suc p) (some (key_of (line s))) (rest s) m.others m.is in
+    ((l.is_ended, (code_parts (line s) l.code).few, t.0), m.whole ∙ ap (λ (js : List Octets). key_of (line s) ∷ js) t.1)
 
-pub flatten-length : (n : ℕ) (s : Octets) → Sound n s → length (flatten (line-keys n s)) ≡ 20 * n
-unfolding flatten line-keys
-flatten-length zero s h = refl
-flatten-length (suc n) s h = simp length-append (omega (arith, flatten-length n (rest s) h.2, key-of-length (line s) h.1))
+pub flatten_length : (n : ℕ) (s : Octets) → Sound n s → length (flatten (line_keys n s)) ≡ 20 * n
+unfolding flatten line_keys
+flatten_length zero s h = refl
+flatten_length (suc n) s h = simp length-append (omega (arith, flatten_length n (rest s) h.2, key_of_length (line s) h.1))
 
 -- Writing
 
@@ -112,20 +112,20 @@ pub record Writable (room : ℕ) (text : Octets) (n : ℕ) : Type 0 where
   pub long : 6 ≤ length text
   pub second_ended : ended (drop 6 text) ≡ true
   pub sound : Sound n (rest (drop 6 text))
-  pub all-keys : keys (reading room text) ≡ flatten (line-keys n (rest (drop 6 text)))
+  pub all_keys : keys (reading room text) ≡ flatten (line_keys n (rest (drop 6 text)))
   pub fits : 20 * n ≤ room
 
 pub writable : (room : ℕ) (text : Octets) (n : ℕ) → answer (reading room text) ≡ Done n → Writable room text n
 unfolding keys
 writable room text n e =
-    let t = answer-done (reading room text) n e in
-    let a = reading-accepted room text t.is in
-    let c = codes-sound (number (line (drop 6 text))) 3 none (rest (drop 6 text)) t.those a.body in
-    let m : number (line (drop 6 text)) ≡ n = sym (ap length c.1 ∙ line-keys-length (number (line (drop 6 text))) (rest (drop 6 text))) ∙ t.many in
+    let t = answer_done (reading room text) n e in
+    let a = reading_accepted room text t.is in
+    let c = codes_sound (number (line (drop 6 text))) 3 none (rest (drop 6 text)) t.those a.body in
+    let m : number (line (drop 6 text)) ≡ n = sym (ap length c.1 ∙ line_keys_length (number (line (drop 6 text))) (rest (drop 6 text))) ∙ t.many in
     record {
-      long = opens-length text a.opens;
+      long = opens_length text a.opens;
       second_ended = a.second_ended;
       sound = rw m at c.0;
-      all-keys = rw t.is (rw m at (ap flatten c.1));
+      all_keys = rw t.is (rw m at (ap flatten c.1));
       fits = omega (arith, a.fits);
     }

@@ -34,20 +34,20 @@ ascending before (k ∷ ks) = above before k && ascending (some k) ks
 pub record Listing (room : ℕ) (cs : List Octets) : Type 0 where
   pub codes : all_codes cs ≡ true
   pub order : ascending none (map key_of cs) ≡ true
-  pub some-codes : 1 ≤ length cs
+  pub some_codes : 1 ≤ length cs
   pub few : length cs ≤ 3000
   pub fits : 20 * length cs ≤ room
 
 -- An accepted text is, octet for octet, the two head lines and then, for each key that is written, in order, that key's code and LF, and nothing else.
 pub record Whole (room : ℕ) (text : Octets) (ks : List Octets) : Type 0 where
-  pub octet-for-octet : text ≡ text_of (map code_of ks)
-  pub its-keys : map key_of (map code_of ks) ≡ ks
+  pub octet_for_octet : text ≡ text_of (map code_of ks)
+  pub its_keys : map key_of (map code_of ks) ≡ ks
   pub listing : Listing room (map code_of ks)
 
 -- Reading skips nothing.
-abbrev pub Nothing-skipped : Type 0
-Nothing-skipped = (room : ℕ) (text : Octets) (ks : List Octets) → reading room text ≡ accepted ks → Whole room text ks
+abbrev pub NothingSkipped : Type 0
+NothingSkipped = (room : ℕ) (text : Octets) (ks : List Octets) → reading room text ≡ accepted ks → Whole room text ks
 
 -- Conversely every such list, so written, is accepted and gives exactly those keys.
-abbrev pub Every-listing-accepted : Type 0
-Every-listing-accepted = (room : ℕ) (cs : List Octets) → Listing room cs → reading room (text_of cs) ≡ accepted (map key_of cs)
+abbrev pub EveryListingAccepted : Type 0
+EveryListingAccepted = (room : ℕ) (cs : List Octets) → Listing room cs → reading room (text_of cs) ≡ accepted (map key_of cs)

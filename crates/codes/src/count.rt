@@ -1,7 +1,7 @@
 // The count on a list's second line (01, "The list as text").
 ghost use Rattle.std.specs.Prelude.{◌≡◌, true, ◌≤◌, ◌<◌};
 ghost use Rattle.codes.specs.Code.{digit, all};
-ghost use Rattle.codes.specs.Count.{is-count};
+ghost use Rattle.codes.specs.Count.{is_count};
 ghost use Rattle.codes.specs.Count as specs;
 
 use super::code::is_digit;
@@ -22,7 +22,7 @@ fn all_digits(s: &[u8]) -> bool
 
 // 1 to 5 digits with no leading zero, or `0` itself.
 pub fn is_count(s: &[u8]) -> bool
-    ensures { result ≡ is-count s.now }
+    ensures { result ≡ is_count s.now }
 {
     let n = s.len();
     if n < 1 {
@@ -48,7 +48,7 @@ fn wide(c: u8) -> u32
 
 // The number that the digits make.
 pub fn number(s: &[u8]) -> u32
-    requires { is-count s.now ≡ true }
+    requires { is_count s.now ≡ true }
     ensures { (result ≡ specs.number s.now) × (result < 100000) }
 {
     let mut n: u32 = 0;

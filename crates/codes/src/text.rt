@@ -2,7 +2,7 @@
 ghost use Rattle.std.specs.Prelude.{◌≡◌, true, ◌+◌, ◌≤◌, ◌<◌, length, take, drop};
 ghost use Rattle.std.proofs.Math.Option.{none, some};
 ghost use Rattle.octets.specs.Order.{same};
-ghost use Rattle.codes.specs.Text.{before-LF, fault, codes, counted, second-line, opening, reading};
+ghost use Rattle.codes.specs.Text.{before_LF, fault, codes, counted, second_line, opening, reading};
 ghost use Rattle.codes.specs.Read.{answer};
 
 use super::code::{is_code, key_of};
@@ -12,7 +12,7 @@ use answer::Answer;
 // Where the line at `at` ends: the index of its LF, or the text's length where no LF follows.
 pub fn line_end(text: &[u8], at: usize) -> usize
     requires { at ≤ length text.now }
-    ensures { (result ≡ at + before-LF (drop at text.now)) × (result ≤ length text.now) }
+    ensures { (result ≡ at + before_LF (drop at text.now)) × (result ≤ length text.now) }
 {
     let mut i = at;
     while i < text.len() {
@@ -26,7 +26,7 @@ pub fn line_end(text: &[u8], at: usize) -> usize
 
 // The refusal that the line from `at` to `end` meets after the key `before`, or 0.
 fn line_fault(text: &[u8], at: usize, end: usize, before: &[u8; 20]) -> u16
-    requires { (at ≤ length text.now) × (end ≡ at + before-LF (drop at text.now)) × (end ≤ length text.now) }
+    requires { (at ≤ length text.now) × (end ≡ at + before_LF (drop at text.now)) × (end ≤ length text.now) }
     ensures { result ≡ fault (some before.now) (drop at text.now) }
 {
     if end == text.len() {
@@ -101,7 +101,7 @@ fn judge_counted(text: &[u8], at: usize, n: u32, room: usize) -> Answer
 // The second line, from octet 6 on.
 fn judge_second_line(text: &[u8], room: usize) -> Answer
     requires { 6 ≤ length text.now }
-    ensures { result ≡ answer (second-line room (drop 6 text.now)) }
+    ensures { result ≡ answer (second_line room (drop 6 text.now)) }
 {
     let end = line_end(text, 6);
     if end == text.len() {

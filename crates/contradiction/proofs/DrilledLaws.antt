@@ -12,61 +12,61 @@ use lib.Seq.{take_at}
 use Rattle.answer.specs.declared.Answer.{Answer}
 use Rattle.answer.specs.declared.Answer.TheVariants as answer
 use Rattle.answer.specs.Answer.{written}
-use Rattle.answer.specs.Refusals.{size, more-codes}
+use Rattle.answer.specs.Refusals.{size, more_codes}
 use Rattle.octets.specs.Order.{Octets}
 use Rattle.codes.specs.Text.{Reading, accepted, reading}
 use Rattle.codes.specs.Text as text
 use Rattle.codes.specs.Read.{Read}
 use Rattle.codes.specs.Read as read
-use Rattle.codes.proofs.AcceptedLaws.{answer-done}
+use Rattle.codes.proofs.AcceptedLaws.{answer_done}
 use Rattle.contradiction.specs.declared.Outcome.{Outcome}
 use Rattle.contradiction.specs.declared.Outcome.TheVariants.{Found, Refused}
-use Rattle.contradiction.specs.Trial.{number-key, first_alike, trial-answer}
-use Rattle.contradiction.specs.Drill.{handed, number, refused, tried, drilled, drilling, drill-answer, first-buffer, second-buffer, Carried-out, Drilled}
+use Rattle.contradiction.specs.Trial.{number_key, first_alike, trial_answer}
+use Rattle.contradiction.specs.Drill.{handed, number, refused, tried, drilled, drilling, drill_answer, first_buffer, second_buffer, CarriedOut, Drilled}
 use Rattle.contradiction.specs.contracts.Outcome.{the_type}
-use Rattle.contradiction.proofs.ReadLaws.{read-many, read-sized}
+use Rattle.contradiction.proofs.ReadLaws.{read_many, read_sized}
 
 -- `contradict`
 
-nothing-found : (k out₁ out₂ : Octets) (o : Option ℕ) {t : Outcome} → t ≡ trial-answer o → OneOf (1 ∷ 2 ∷ []) (tag_of the_type t)
-    → Carried-out (tried k o) out₁ out₂ t out₁ out₂
-unfolding trial-answer tried drill-answer first-buffer second-buffer
-nothing-found k out₁ out₂ none e m = record { answered = e; first-left = refl; second-left = refl }
-nothing-found k out₁ out₂ (some n) e m = absurd (miss (1 ∷ 2 ∷ []) 0 tt (rw e at m))
+nothing_found : (k out₁ out₂ : Octets) (o : Option ℕ) {t : Outcome} → t ≡ trial_answer o → OneOf (1 ∷ 2 ∷ []) (tag_of the_type t)
+    → CarriedOut (tried k o) out₁ out₂ t out₁ out₂
+unfolding trial_answer tried drill_answer first_buffer second_buffer
+nothing_found k out₁ out₂ none e m = record { answered = e; first_left = refl; second_left = refl }
+nothing_found k out₁ out₂ (some n) e m = absurd (miss (1 ∷ 2 ∷ []) 0 tt (rw e at m))
 
-found-tried : (k : Octets) (o : Option ℕ) {n : ℕ} → Found n ≡ trial-answer o → tried k o ≡ number n (handed k (number-key n))
-unfolding trial-answer tried
-found-tried k none e = let z : ◌≡◌ {A = ℕ} 0 1 = cc in absurd (omega arith)
-found-tried k (some m) {n} e = let q : n ≡ m = cc in rw q
+found_tried : (k : Octets) (o : Option ℕ) {n : ℕ} → Found n ≡ trial_answer o → tried k o ≡ number n (handed k (number_key n))
+unfolding trial_answer tried
+found_tried k none e = let z : ◌≡◌ {A = ℕ} 0 1 = cc in absurd (omega arith)
+found_tried k (some m) {n} e = let q : n ≡ m = cc in rw q
 
-module _ (k out₁ out₂ : Octets) (bound : ℕ) {t : Outcome} (e : t ≡ trial-answer (first_alike k bound 0)) where
-  pub contradict-none : OneOf (1 ∷ 2 ∷ []) (tag_of the_type t) → Carried-out (tried k (first_alike k bound 0)) out₁ out₂ t out₁ out₂
-  contradict-none m = nothing-found k out₁ out₂ (first_alike k bound 0) e m
+module _ (k out₁ out₂ : Octets) (bound : ℕ) {t : Outcome} (e : t ≡ trial_answer (first_alike k bound 0)) where
+  pub contradict_none : OneOf (1 ∷ 2 ∷ []) (tag_of the_type t) → CarriedOut (tried k (first_alike k bound 0)) out₁ out₂ t out₁ out₂
+  contradict_none m = nothing_found k out₁ out₂ (first_alike k bound 0) e m
 
-  pub contradict-found : {n : ℕ} {r : Outcome} {out₁' out₂' : Octets} → t ≡ Found n
-      → Carried-out (number n (handed k (number-key n))) out₁ out₂ r out₁' out₂' → Carried-out (tried k (first_alike k bound 0)) out₁ out₂ r out₁' out₂'
-  contradict-found f c = rw (found-tried k (first_alike k bound 0) (sym f ∙ e)) c
+  pub contradict_found : {n : ℕ} {r : Outcome} {out₁' out₂' : Octets} → t ≡ Found n
+      → CarriedOut (number n (handed k (number_key n))) out₁ out₂ r out₁' out₂' → CarriedOut (tried k (first_alike k bound 0)) out₁ out₂ r out₁' out₂'
+  contradict_found f c = rw (found_tried k (first_alike k bound 0) (sym f ∙ e)) c
 
-answer-refused : (q : Reading) {m p : ℕ} → answer.Refused m p ≡ read.answer q → q ≡ text.refused m p
+answer_refused : (q : Reading) {m p : ℕ} → answer.Refused m p ≡ read.answer q → q ≡ text.refused m p
 unfolding read.answer
-answer-refused (accepted ks) e = cc
-answer-refused (text.refused n q) e = cc
+answer_refused (accepted ks) e = cc
+answer_refused (text.refused n q) e = cc
 
 -- `drill`
 
 module _ (s : Octets) (bound : ℕ) (out₁ out₂ : Octets) where
   refuses : {m p : ℕ} → drilling s bound (length out₁) (length out₂) ≡ refused m p → Drilled s bound out₁ out₂ (Refused m p) out₁ out₂
-  unfolding drill-answer first-buffer second-buffer
-  refuses e = record { answered = rw e; first-left = rw e; second-left = rw e }
+  unfolding drill_answer first_buffer second_buffer
+  refuses e = record { answered = rw e; first_left = rw e; second_left = rw e }
 
-  pub drilled-first-size : (length out₁ ≡ 85 → ⊥) → Drilled s bound out₁ out₂ (Refused size 0) out₁ out₂
+  pub drilled_first_size : (length out₁ ≡ 85 → ⊥) → Drilled s bound out₁ out₂ (Refused size 0) out₁ out₂
   unfolding drilling
-  drilled-first-size h = refuses (rw (ne_eqb (length out₁) 85 h))
+  drilled_first_size h = refuses (rw (ne_eqb (length out₁) 85 h))
 
   module _ (h₁ : length out₁ ≡ 85) where
-    pub drilled-second-size : (length out₂ ≡ 85 → ⊥) → Drilled s bound out₁ out₂ (Refused size 0) out₁ out₂
+    pub drilled_second_size : (length out₂ ≡ 85 → ⊥) → Drilled s bound out₁ out₂ (Refused size 0) out₁ out₂
     unfolding drilling
-    drilled-second-size h = refuses (rw (h₁, ne_eqb (length out₂) 85 h))
+    drilled_second_size h = refuses (rw (h₁, ne_eqb (length out₂) 85 h))
 
     module _ (h₂ : length out₂ ≡ 85) {keys keys' : Octets} {a : Answer} (big : length keys ≡ 60000) (was_read : Read s keys a keys') where
       comes : (q : Reading) → reading 60000 s ≡ q → drilling s bound (length out₁) (length out₂) ≡ drilled bound q
@@ -76,30 +76,30 @@ module _ (s : Octets) (bound : ℕ) (out₁ out₂ : Octets) where
       told : a ≡ read.answer (reading 60000 s)
       told = was_read.answered ∙ rw big
 
-      pub drilled-refused : {m p : ℕ} → a ≡ answer.Refused m p → Drilled s bound out₁ out₂ (Refused m p) out₁ out₂
+      pub drilled_refused : {m p : ℕ} → a ≡ answer.Refused m p → Drilled s bound out₁ out₂ (Refused m p) out₁ out₂
       unfolding drilled
-      drilled-refused {m} {p} e = refuses (comes (text.refused m p) (answer-refused (reading 60000 s) (sym e ∙ told)))
+      drilled_refused {m} {p} e = refuses (comes (text.refused m p) (answer_refused (reading 60000 s) (sym e ∙ told)))
 
       module _ {n : ℕ} (e : a ≡ answer.Done n) where
-        pub drilled-more : 1 < n → Drilled s bound out₁ out₂ (Refused more-codes 2) out₁ out₂
+        pub drilled_more : 1 < n → Drilled s bound out₁ out₂ (Refused more_codes 2) out₁ out₂
         unfolding drilled
-        drilled-more h =
-            let t = answer-done (reading 60000 s) n (sym told ∙ e) in
+        drilled_more h =
+            let t = answer_done (reading 60000 s) n (sym told ∙ e) in
             refuses (comes (accepted t.those) t.is ∙ rw (t.many, lt-ltb 1 n h))
 
         front : (k : Octets) → reading 60000 s ≡ accepted (k ∷ []) → take 20 keys' ≡ k
         unfolding written read.keys flatten
         front k q =
             let w : keys' ≡ k ++ drop (length k) keys = was_read.left ∙ rw (e, big, q, append-nil k) in
-            rw w (take_at k (drop (length k) keys) 20 (read-sized s k q))
+            rw w (take_at k (drop (length k) keys) 20 (read_sized s k q))
 
         module _ {r : Outcome} {out₁' out₂' : Octets}
-            (c : Carried-out (tried (take 20 keys') (first_alike (take 20 keys') bound 0)) out₁ out₂ r out₁' out₂') where
-          pub drilled-one : n ≤ 1 → Drilled s bound out₁ out₂ r out₁' out₂'
+            (c : CarriedOut (tried (take 20 keys') (first_alike (take 20 keys') bound 0)) out₁ out₂ r out₁' out₂') where
+          pub drilled_one : n ≤ 1 → Drilled s bound out₁ out₂ r out₁' out₂'
           unfolding drilled
-          drilled-one h =
-              let t = answer-done (reading 60000 s) n (sym told ∙ e) in
-              go t.those t.is (omega (arith, t.many, read-many s t.those t.is))
+          drilled_one h =
+              let t = answer_done (reading 60000 s) n (sym told ∙ e) in
+              go t.those t.is (omega (arith, t.many, read_many s t.those t.is))
             where
               go : (ks : List Octets) → reading 60000 s ≡ accepted ks → length ks ≡ 1 → Drilled s bound out₁ out₂ r out₁' out₂'
               go [] q l = absurd (omega arith)

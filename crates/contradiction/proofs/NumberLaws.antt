@@ -6,30 +6,30 @@ use native.Mathlib.Nat.{div-one, div-eq_of_lt, pow-le-pow_right}
 use native.Mathlib.Omega.{arith}
 use lib.ListN.{length, get_or, set, replicate}
 use Rattle.sha256.specs.Fips180.{octets}
-use Rattle.contradiction.specs.Trial.{number-key}
+use Rattle.contradiction.specs.Trial.{number_key}
 
-pub key-length : (n : ℕ) → length (number-key n) ≡ 20
+pub key_length : (n : ℕ) → length (number_key n) ≡ 20
 unfolding octets
-key-length n = refl
+key_length n = refl
 
-zero-octet : (n b : ℕ) → n < b → n / b % 256 ≡ 0
-zero-octet n b h = let e : n / b ≡ 0 = div-eq_of_lt h in omega arith
+zero_octet : (n b : ℕ) → n < b → n / b % 256 ≡ 0
+zero_octet n b h = let e : n / b ≡ 0 = div-eq_of_lt h in omega arith
 
-pub small-octets : (n k : ℕ) → n < 256 ^ 4 → octets (4 + k) n ≡ replicate k 0 ++ octets 4 n
+pub small_octets : (n k : ℕ) → n < 256 ^ 4 → octets (4 + k) n ≡ replicate k 0 ++ octets 4 n
 unfolding octets
-small-octets n zero h = refl
-small-octets n (suc k) h =
+small_octets n zero h = refl
+small_octets n (suc k) h =
     let m : 256 ^ 4 ≤ 256 ^ (4 + k) = pow-le-pow_right (omega arith) {i = 4} {j = 4 + k} (omega arith) in
     let e : 4 + suc k ≡ suc (4 + k) = omega arith in
-    rw (e, zero-octet n (256 ^ (4 + k)) (omega arith), small-octets n k h)
+    rw (e, zero_octet n (256 ^ (4 + k)) (omega arith), small_octets n k h)
 
-pub key-stored : (n : ℕ) → n < 2 ^ 32
-    → set (set (set (set (replicate 20 0) 16 (n / 16777216)) 17 (n / 65536 % 256)) 18 (n / 256 % 256)) 19 (n % 256) ≡ number-key n
+pub key_stored : (n : ℕ) → n < 2 ^ 32
+    → set (set (set (set (replicate 20 0) 16 (n / 16777216)) 17 (n / 65536 % 256)) 18 (n / 256 % 256)) 19 (n % 256) ≡ number_key n
 unfolding octets
-key-stored n h =
+key_stored n h =
     let a : n / 16777216 ≡ n / 16777216 % 256 = omega arith in
     let b : n % 256 ≡ n / 1 % 256 = omega arith in
-    rw (small-octets n 16 h) cc
+    rw (small_octets n 16 h) cc
 
 -- equal above the last octet, and in it
 joined : (n m : ℕ) → n / 256 ≡ m / 256 → n % 256 ≡ m % 256 → n ≡ m
@@ -38,23 +38,23 @@ joined n m p q = omega arith
 quotients : (n : ℕ) → (n / 65536 / 256 ≡ n / 16777216) × (n / 256 / 256 ≡ n / 65536)
 quotients n = (omega arith, omega arith)
 
-first-octet : (n m : ℕ) → n < 2 ^ 32 → m < 2 ^ 32 → n / 16777216 % 256 ≡ m / 16777216 % 256 → n / 16777216 ≡ m / 16777216
-first-octet n m p q e = omega arith
+first_octet : (n m : ℕ) → n < 2 ^ 32 → m < 2 ^ 32 → n / 16777216 % 256 ≡ m / 16777216 % 256 → n / 16777216 ≡ m / 16777216
+first_octet n m p q e = omega arith
 
-pub key-injective : (n m : ℕ) → n < 2 ^ 32 → m < 2 ^ 32 → number-key n ≡ number-key m → n ≡ m
+pub key_injective : (n m : ℕ) → n < 2 ^ 32 → m < 2 ^ 32 → number_key n ≡ number_key m → n ≡ m
 unfolding octets
-key-injective n m p q e =
+key_injective n m p q e =
     let s = quotients n in
     let t = quotients m in
-    let one : n / 16777216 ≡ m / 16777216 = first-octet n m p q (ap (λ s. get_or s 16 0) e) in
+    let one : n / 16777216 ≡ m / 16777216 = first_octet n m p q (ap (λ s. get_or s 16 0) e) in
     let two : n / 65536 ≡ m / 65536 = joined _ _ (s.0 ∙ one ∙ sym t.0) (ap (λ s. get_or s 17 0) e) in
     let three : n / 256 ≡ m / 256 = joined _ _ (s.1 ∙ two ∙ sym t.1) (ap (λ s. get_or s 18 0) e) in
     let last : n / 1 % 256 ≡ m / 1 % 256 = ap (λ s. get_or s 19 0) e in
     joined n m three (simp div-one at last)
 
 -- of two numbers in a row the last octets differ
-pub keys-in-a-row : (n : ℕ) → number-key (suc n) ≡ number-key n → ⊥
+pub keys_in_a_row : (n : ℕ) → number_key (suc n) ≡ number_key n → ⊥
 unfolding octets
-keys-in-a-row n e =
+keys_in_a_row n e =
     let last : suc n / 1 % 256 ≡ n / 1 % 256 = ap (λ s. get_or s 19 0) e in
     omega arith

@@ -11,30 +11,30 @@ use lib.Seq.{take_at, take_all, length-take-le}
 use Rattle.octets.specs.Order.{Octets, same}
 use Rattle.octets.proofs.OrderLaws.{same_true, same_refl}
 use Rattle.sha256.specs.Fips180.{sha256}
-use Rattle.sha256.proofs.Fips180Laws.{sha256-length}
+use Rattle.sha256.proofs.Fips180Laws.{sha256_length}
 use Rattle.profile.specs.Profile.{drill, label, short}
-use Rattle.profile.proofs.ProfileLaws.{label-length, label-drill}
+use Rattle.profile.proofs.ProfileLaws.{label_length, label_drill}
 use Rattle.attester.specs.Entry.{key}
-use Rattle.attester.specs.Record.{node-record}
+use Rattle.attester.specs.Record.{node_record}
 use Rattle.attester.specs.Label.{digest}
 use Rattle.attester.specs.Path.{foot}
 use Rattle.attester.specs.Form.{shown}
-use Rattle.attester.specs.Verdict.{present, absent, root-record}
+use Rattle.attester.specs.Verdict.{present, absent, root_record}
 use Rattle.attester.specs.Verify.{verify}
 use Rattle.attester.specs.Search.{listed}
 use Rattle.attester.specs.Attestation.{attestation}
 use Rattle.attester.specs.Walk.{Found, walk}
 use Rattle.attester.specs.Extract.{extracted, sized}
-use Rattle.attester.proofs.RecordLaws.{record-length, record-injective}
-use Rattle.attester.proofs.LabelLaws.{digest-length}
-use Rattle.attester.proofs.AttestationLaws.{form-of-attestation}
-use Rattle.attester.proofs.Demand2.{demand-2}
-use Rattle.attester.proofs.ExtractLaws.{extract-found}
+use Rattle.attester.proofs.RecordLaws.{record_length, record_injective}
+use Rattle.attester.proofs.LabelLaws.{digest_length}
+use Rattle.attester.proofs.AttestationLaws.{form_of_attestation}
+use Rattle.attester.proofs.Demand2.{demand_2}
+use Rattle.attester.proofs.ExtractLaws.{extract_found}
 use Rattle.tree.specs.Edition.{width, most}
-use Rattle.contradiction.specs.Trial.{number-key, alike}
+use Rattle.contradiction.specs.Trial.{number_key, alike}
 use Rattle.contradiction.specs.Drill.{handed}
-use Rattle.contradiction.proofs.NumberLaws.{key-length}
-use Rattle.contradiction.proofs.OneNodeLaws.{one-digest, one-search, one-listing}
+use Rattle.contradiction.proofs.NumberLaws.{key_length}
+use Rattle.contradiction.proofs.OneNodeLaws.{one_digest, one_search, one_listing}
 
 -- octets that are not the same are told apart
 unlike : (a b : Octets) → (a ≡ b → ⊥) → same a b ≡ false
@@ -45,26 +45,26 @@ unlike a b differ = go (same a b) refl
     go false e = refl
 
 -- the record of the one node
-abbrev pub one-record : Octets → Octets
-one-record k = node-record none k none
+abbrev pub one_record : Octets → Octets
+one_record k = node_record none k none
 
-pub one-record-length : (k : Octets) → length k ≡ 20 → length (one-record k) ≡ 85
-one-record-length k h = record-length 20 none k none tt h tt
+pub one_record_length : (k : Octets) → length k ≡ 20 → length (one_record k) ≡ 85
+one_record_length k h = record_length 20 none k none tt h tt
 
 -- what the extractor shows of the listed key k and the number n
 abbrev pub pair : Octets → ℕ → Found
-pair k n = record { passed = 0; first = one-record k; second = one-record (number-key n) }
+pair k n = record { passed = 0; first = one_record k; second = one_record (number_key n) }
 
 -- where the labels agree, so do their first 2 octets
-short-agree : (a b : Octets) → length a ≡ 32 → length b ≡ 32 → short a ≡ short b → take 2 a ≡ take 2 b
-short-agree a b h g e =
+short_agree : (a b : Octets) → length a ≡ 32 → length b ≡ 32 → short a ≡ short b → take 2 a ≡ take 2 b
+short_agree a b h g e =
     sym (take_at (take 2 a) (replicate 30 0) 2 (length-take-le 2 a (omega arith)))
     ∙ ap (take 2) e
     ∙ take_at (take 2 b) (replicate 30 0) 2 (length-take-le 2 b (omega arith))
 
-module _ (k : Octets) (sized-key : length k ≡ 20) (n : ℕ) where
+module _ (k : Octets) (sized_key : length k ≡ 20) (n : ℕ) where
   abbrev x : Octets
-  x = number-key n
+  x = number_key n
 
   abbrev d : Octets
   d = digest (label drill) (k ∷ [])
@@ -78,52 +78,52 @@ module _ (k : Octets) (sized-key : length k ≡ 20) (n : ℕ) where
   few : 3000 < 2 ^ 32
   few = omega arith
 
-  pub shows-foot : (j : Octets) → length j ≡ 20 → shown width (attestation (label drill) (j ∷ []) x) ≡ foot j none none
+  pub shows_foot : (j : Octets) → length j ≡ 20 → shown width (attestation (label drill) (j ∷ []) x) ≡ foot j none none
   unfolding shown
-  shows-foot j h =
-      rw (form-of-attestation (label drill) (label-length drill) width most (j ∷ []) x (one-listing j h) few) (one-search (label drill) j x)
+  shows_foot j h =
+      rw (form_of_attestation (label drill) (label_length drill) width most (j ∷ []) x (one_listing j h) few) (one_search (label drill) j x)
 
   verdict : (j : Octets) → length j ≡ 20
       → verify (label drill) width x (digest (label drill) (j ∷ [])) (attestation (label drill) (j ∷ []) x) ≡ cond (same x j) present absent
   unfolding listed key
   verdict j h =
       rw (take_all 20 j (omega arith), or-false) at
-      (demand-2 (label drill) width most (label-length drill) few (j ∷ []) x (one-listing j h) (key-length n))
+      (demand_2 (label drill) width most (label_length drill) few (j ∷ []) x (one_listing j h) (key_length n))
 
-  module _ (other : number-key n ≡ k → ⊥) (is-alike : alike k n ≡ true) where
-    same-digest : digest (label drill) (x ∷ []) ≡ d
+  module _ (other : number_key n ≡ k → ⊥) (is_alike : alike k n ≡ true) where
+    same_digest : digest (label drill) (x ∷ []) ≡ d
     unfolding alike
-    same-digest = same_true (digest (label drill) (x ∷ [])) d is-alike
+    same_digest = same_true (digest (label drill) (x ∷ [])) d is_alike
 
-    pub judged-absent : verify (label drill) width x d a ≡ absent
-    judged-absent = rw (verdict k sized-key, unlike x k other)
+    pub judged_absent : verify (label drill) width x d a ≡ absent
+    judged_absent = rw (verdict k sized_key, unlike x k other)
 
-    pub judged-present : verify (label drill) width x d b ≡ present
-    judged-present = rw (← same-digest, verdict x (key-length n), same_refl x)
+    pub judged_present : verify (label drill) width x d b ≡ present
+    judged_present = rw (← same_digest, verdict x (key_length n), same_refl x)
 
-    pub differ : one-record k ≡ one-record x → ⊥
-    differ e = other (sym (record-injective none k none none x none tt tt (sized-key ∙ sym (key-length n)) e).entry)
+    pub differ : one_record k ≡ one_record x → ⊥
+    differ e = other (sym (record_injective none k none none x none tt tt (sized_key ∙ sym (key_length n)) e).entry)
 
-    pub two-agree : take 2 (sha256 (one-record k)) ≡ take 2 (sha256 (one-record x))
-    two-agree =
-        short-agree (sha256 (one-record k)) (sha256 (one-record x)) (sha256-length (one-record k)) (sha256-length (one-record x))
-        (sym (label-drill (one-record k)) ∙ sym (one-digest (label drill) k) ∙ sym same-digest ∙ one-digest (label drill) x ∙ label-drill (one-record x))
+    pub two_agree : take 2 (sha256 (one_record k)) ≡ take 2 (sha256 (one_record x))
+    two_agree =
+        short_agree (sha256 (one_record k)) (sha256 (one_record x)) (sha256_length (one_record k)) (sha256_length (one_record x))
+        (sym (label_drill (one_record k)) ∙ sym (one_digest (label drill) k) ∙ sym same_digest ∙ one_digest (label drill) x ∙ label_drill (one_record x))
 
     sizes : sized width (length x) (length d) 85 85 ≡ true
     unfolding sized
-    sizes = rw (key-length n, digest-length (label drill) (label-length drill) (k ∷ []))
+    sizes = rw (key_length n, digest_length (label drill) (label_length drill) (k ∷ []))
 
     contradict : verify (label drill) width x d a ≡ verify (label drill) width x d b → ⊥
     contradict e =
-        let e' : absent ≡ present = sym judged-absent ∙ e ∙ judged-present in
+        let e' : absent ≡ present = sym judged_absent ∙ e ∙ judged_present in
         let z : ◌≡◌ {A = ℕ} 0 1 = cc in
         omega arith
 
     walked : walk (label drill) x (shown width a) (shown width b) ≡ some (pair k n)
-    unfolding walk root-record
-    walked = rw (shows-foot k sized-key, shows-foot x (key-length n), unlike (one-record k) (one-record x) differ)
+    unfolding walk root_record
+    walked = rw (shows_foot k sized_key, shows_foot x (key_length n), unlike (one_record k) (one_record x) differ)
 
-    pub handed-shows : handed k x ≡ extracted (pair k n)
+    pub handed_shows : handed k x ≡ extracted (pair k n)
     unfolding handed
-    handed-shows =
-        extract-found (label drill) width x d a b 85 85 sizes (rw judged-absent tt) (rw judged-present tt) contradict (pair k n) walked
+    handed_shows =
+        extract_found (label drill) width x d a b 85 85 sizes (rw judged_absent tt) (rw judged_present tt) contradict (pair k n) walked

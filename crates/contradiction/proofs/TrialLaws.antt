@@ -17,43 +17,43 @@ use Rattle.attester.specs.Label.{digest}
 use Rattle.tree.specs.Edition.{width}
 use Rattle.tree.specs.Labels.{label_of}
 use Rattle.contradiction.specs.declared.Outcome.TheVariants.{Found, None}
-use Rattle.contradiction.specs.Trial.{number-key, alike, unlisted, first_alike, trial-answer}
+use Rattle.contradiction.specs.Trial.{number_key, alike, unlisted, first_alike, trial_answer}
 use Rattle.contradiction.specs.Shows.{Skipped, Within}
-use Rattle.contradiction.proofs.NumberLaws.{key-length, key-injective}
-use Rattle.contradiction.proofs.OneNodeLaws.{label-of-one}
+use Rattle.contradiction.proofs.NumberLaws.{key_length, key_injective}
+use Rattle.contradiction.proofs.OneNodeLaws.{label_of_one}
 
-pub number-label : (n : ℕ) → label_of (label drill) width (number-key n) ≡ digest (label drill) (number-key n ∷ [])
-number-label n = label-of-one (label drill) (number-key n) (key-length n)
+pub number_label : (n : ℕ) → label_of (label drill) width (number_key n) ≡ digest (label drill) (number_key n ∷ [])
+number_label n = label_of_one (label drill) (number_key n) (key_length n)
 
 module _ (k : Octets) where
-  pub unlisted-next : (n : ℕ) → same (number-key n) k ≡ true → unlisted k n ≡ suc n
+  pub unlisted_next : (n : ℕ) → same (number_key n) k ≡ true → unlisted k n ≡ suc n
   unfolding unlisted
-  unlisted-next n e = rw e
+  unlisted_next n e = rw e
 
-  pub unlisted-stays : (n : ℕ) → same (number-key n) k ≡ false → unlisted k n ≡ n
+  pub unlisted_stays : (n : ℕ) → same (number_key n) k ≡ false → unlisted k n ≡ n
   unfolding unlisted
-  unlisted-stays n e = rw e
+  unlisted_stays n e = rw e
 
   -- n is to be tried next, with so many left: no number was skipped yet; or one was
   pub data Room (bound left n : ℕ) : Type 0 where
     fresh : n + left ≤ bound → Room bound left n
     past : Skipped k n → n + left ≤ suc bound → Room bound left n
 
-  pub room-start : (bound : ℕ) → Room bound bound 0
-  room-start bound = fresh (omega arith)
+  pub room_start : (bound : ℕ) → Room bound bound 0
+  room_start bound = fresh (omega arith)
 
-  pub within-bound : {bound n : ℕ} → Within k bound n → n ≤ bound
-  within-bound (inl h) = omega arith
-  within-bound (inr h) = omega (arith, h.0)
+  pub within_bound : {bound n : ℕ} → Within k bound n → n ≤ bound
+  within_bound (inl h) = omega arith
+  within_bound (inr h) = omega (arith, h.0)
 
-  pub skipped-below : {n m : ℕ} (i : Skipped k n) → i.which < m → Skipped k m
-  skipped-below i h = record { which = i.which; below = h; is-listed = i.is-listed }
+  pub skipped_below : {n m : ℕ} (i : Skipped k n) → i.which < m → Skipped k m
+  skipped_below i h = record { which = i.which; below = h; is_listed = i.is_listed }
 
-  within-skipped : (bound m : ℕ) → Skipped k m → m ≤ bound → Within k bound m
-  within-skipped bound m i h = go (eqb m bound) refl
+  within_skipped : (bound m : ℕ) → Skipped k m → m ≤ bound → Within k bound m
+  within_skipped bound m i h = go (eqb m bound) refl
     where
       go : (b : Bool) → eqb m bound ≡ b → Within k bound m
-      go true q = let z = eqb-true m bound q in inr (z, skipped-below i (omega (arith, i.below)))
+      go true q = let z = eqb-true m bound q in inr (z, skipped_below i (omega (arith, i.below)))
       go false q = let z = eqb-false m bound q in inl (omega arith)
 
   -- the number m is tried, and then so many are left
@@ -62,71 +62,71 @@ module _ (k : Octets) where
     room : Room bound left (suc m)
 
   module _ (bound : ℕ) (small : bound < 2 ^ 32) (left n : ℕ) where
-    pub room-below : Room bound (suc left) n → n ≤ bound
-    room-below (fresh h) = omega arith
-    room-below (past i h) = omega arith
+    pub room_below : Room bound (suc left) n → n ≤ bound
+    room_below (fresh h) = omega arith
+    room_below (past i h) = omega arith
 
-    stepped : Room bound (suc left) n → (b : Bool) → same (number-key n) k ≡ b → Stepped bound left (unlisted k n)
+    stepped : Room bound (suc left) n → (b : Bool) → same (number_key n) k ≡ b → Stepped bound left (unlisted k n)
     stepped (fresh h) true e =
-        let i : Skipped k (suc n) = record { which = n; below = omega arith; is-listed = same_true (number-key n) k e } in
-        rw (unlisted-next n e) record {
-          within = within-skipped bound (suc n) i (omega arith);
-          room = past (skipped-below i (omega arith)) (omega arith);
+        let i : Skipped k (suc n) = record { which = n; below = omega arith; is_listed = same_true (number_key n) k e } in
+        rw (unlisted_next n e) record {
+          within = within_skipped bound (suc n) i (omega arith);
+          room = past (skipped_below i (omega arith)) (omega arith);
         }
-    stepped (fresh h) false e = rw (unlisted-stays n e) record { within = inl (omega arith); room = fresh (omega arith) }
+    stepped (fresh h) false e = rw (unlisted_stays n e) record { within = inl (omega arith); room = fresh (omega arith) }
     stepped (past i h) true e =
         let l = i.below in
-        let z = key-injective i.which n (omega arith) (omega arith) (i.is-listed ∙ sym (same_true (number-key n) k e)) in
+        let z = key_injective i.which n (omega arith) (omega arith) (i.is_listed ∙ sym (same_true (number_key n) k e)) in
         absurd (omega arith)
     stepped (past i h) false e =
-        rw (unlisted-stays n e) record {
-          within = within-skipped bound n i (omega arith);
-          room = past (skipped-below i (omega (arith, i.below))) (omega arith);
+        rw (unlisted_stays n e) record {
+          within = within_skipped bound n i (omega arith);
+          room = past (skipped_below i (omega (arith, i.below))) (omega arith);
         }
 
-    pub tried-within : Room bound (suc left) n → Within k bound (unlisted k n)
-    tried-within r = (stepped r (same (number-key n) k) refl).within
+    pub tried_within : Room bound (suc left) n → Within k bound (unlisted k n)
+    tried_within r = (stepped r (same (number_key n) k) refl).within
 
     pub room_next : Room bound (suc left) n → Room bound left (suc (unlisted k n))
-    room_next r = (stepped r (same (number-key n) k) refl).room
+    room_next r = (stepped r (same (number_key n) k) refl).room
 
   -- the loop, where n is to be tried next, with so many left
   pub record Searching (bound left n : ℕ) : Type 0 where
     pub room : Room bound left n
     pub rest : first_alike k left n ≡ first_alike k bound 0
 
-  pub searching-start : (bound : ℕ) → Searching bound bound 0
-  searching-start bound = record { room = room-start bound; rest = refl }
+  pub searching_start : (bound : ℕ) → Searching bound bound 0
+  searching_start bound = record { room = room_start bound; rest = refl }
 
-pub searching-none : {k : Octets} {bound left n : ℕ} → Searching k bound left n → left ≤ 0 → None ≡ trial-answer (first_alike k bound 0)
-unfolding first_alike trial-answer
-searching-none {k} {bound} {left} {n} s h = let z : left ≡ 0 = omega arith in rw (← s.rest, z)
+pub searching_none : {k : Octets} {bound left n : ℕ} → Searching k bound left n → left ≤ 0 → None ≡ trial_answer (first_alike k bound 0)
+unfolding first_alike trial_answer
+searching_none {k} {bound} {left} {n} s h = let z : left ≡ 0 = omega arith in rw (← s.rest, z)
 
 module _ {k : Octets} {bound left n : ℕ} (s : Searching k bound left n) (small : bound < 2 ^ 32) (more : 0 < left) where
   again : Searching k bound (suc (left - 1)) n
   again = let e : left ≡ suc (left - 1) = omega arith in subst (λ (i : ℕ). Searching k bound i n) e s
 
   pub number_small : n < 2 ^ 32
-  number_small = omega (arith, room-below k bound small (left - 1) n again.room)
+  number_small = omega (arith, room_below k bound small (left - 1) n again.room)
 
   module _ {m : ℕ} (u : m ≡ unlisted k n) where
-    pub tried-small : m < 2 ^ 32
-    tried-small = omega (arith, u, within-bound k (tried-within k bound small (left - 1) n again.room))
+    pub tried_small : m < 2 ^ 32
+    tried_small = omega (arith, u, within_bound k (tried_within k bound small (left - 1) n again.room))
 
     -- the code's test is against the label d, worked out beforehand
     module _ {d : Octets} {b : Bool} (one : length k ≡ 20) (ed : d ≡ label_of (label drill) width k)
-        (eb : b ≡ same (digest (label drill) (number-key m ∷ [])) d) where
+        (eb : b ≡ same (digest (label drill) (number_key m ∷ [])) d) where
       tested : alike k m ≡ b
       unfolding alike
-      tested = rw (eb, ed, label-of-one (label drill) k one)
+      tested = rw (eb, ed, label_of_one (label drill) k one)
 
-      pub searching-found : b ≡ true → Found m ≡ trial-answer (first_alike k bound 0)
-      unfolding first_alike trial-answer
-      searching-found t = rw (← again.rest, ← u, tested, t)
+      pub searching_found : b ≡ true → Found m ≡ trial_answer (first_alike k bound 0)
+      unfolding first_alike trial_answer
+      searching_found t = rw (← again.rest, ← u, tested, t)
 
-      pub searching-turn : b ≡ false → Searching k bound (left - 1) (m + 1)
+      pub searching_turn : b ≡ false → Searching k bound (left - 1) (m + 1)
       unfolding first_alike
-      searching-turn t =
+      searching_turn t =
           let r : Room k bound (left - 1) (suc m) = rw u (room_next k bound small (left - 1) n again.room) in
           let e : first_alike k (suc (left - 1)) n ≡ first_alike k (left - 1) (suc m) = rw (← u, tested, t) in
           rw add-one record { room = r; rest = sym e ∙ again.rest }

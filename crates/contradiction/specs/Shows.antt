@@ -3,11 +3,11 @@
 -- it was given for. Proved in `proofs/Shows.antt`.
 use Rattle.std.specs.Prelude.{◌≡◌, true, false, List, [], ◌∷◌, ◌⊎◌, ℕ, ◌*◌, ◌<◌, ◌^◌, length, take}
 use Rattle.std.proofs.Math.Option.{none, some}
-use Rattle.answer.specs.Refusals.{size, more-codes}
+use Rattle.answer.specs.Refusals.{size, more_codes}
 use Rattle.octets.specs.Order.{Octets}
 use Rattle.sha256.specs.Fips180.{sha256}
 use Rattle.profile.specs.Profile.{drill, label}
-use Rattle.attester.specs.Record.{node-record}
+use Rattle.attester.specs.Record.{node_record}
 use Rattle.attester.specs.Label.{digest}
 use Rattle.attester.specs.Verdict.{present, absent}
 use Rattle.attester.specs.Verify.{verify}
@@ -17,18 +17,18 @@ use Rattle.codes.specs.Text as text
 use Rattle.tree.specs.Edition.{width, most}
 use Rattle.contradiction.specs.declared.Outcome.{Outcome}
 use Rattle.contradiction.specs.declared.Outcome.TheVariants.{Found, None, Refused}
-use Rattle.contradiction.specs.Trial.{number-key, alike, first_alike}
+use Rattle.contradiction.specs.Trial.{number_key, alike, first_alike}
 use Rattle.contradiction.specs.Drill.{Drilled}
 
 -- the number i need not be tried, or was and is not alike
 abbrev pub Passed : Octets → ℕ → Type 0
-Passed k i = (number-key i ≡ k) ⊎ (alike k i ≡ false)
+Passed k i = (number_key i ≡ k) ⊎ (alike k i ≡ false)
 
 -- a number below n is the listed key
 pub record Skipped (k : Octets) (n : ℕ) : Type 0 where
   pub which : ℕ
   pub below : which < n
-  pub is-listed : number-key which ≡ k
+  pub is_listed : number_key which ≡ k
 
 -- 02 (vi), "at most 1,048,576 of them": the numbers below `bound`, and `bound` itself where one of those was skipped
 abbrev pub Within : Octets → ℕ → ℕ → Type 0
@@ -36,71 +36,71 @@ Within k bound n = (n < bound) ⊎ ((n ≡ bound) × Skipped k bound)
 
 -- A number that is found is not the listed key, is alike, no smaller one would do, and for a bound of 32 bits it is among those that
 -- the bound allows; where none is found, none of those would do.
-pub record First-is-first (k : Octets) (bound : ℕ) : Type 0 where
-  pub found-unlisted : (n : ℕ) → first_alike k bound 0 ≡ some n → number-key n ≡ k → ⊥
+pub record FirstIsFirst (k : Octets) (bound : ℕ) : Type 0 where
+  pub found_unlisted : (n : ℕ) → first_alike k bound 0 ≡ some n → number_key n ≡ k → ⊥
   pub found_alike : (n : ℕ) → first_alike k bound 0 ≡ some n → alike k n ≡ true
   pub found_first : (n : ℕ) → first_alike k bound 0 ≡ some n → (i : ℕ) → i < n → Passed k i
   pub found_within : bound < 2 ^ 32 → (n : ℕ) → first_alike k bound 0 ≡ some n → Within k bound n
   pub none_passed : first_alike k bound 0 ≡ none → (i : ℕ) → i < bound → Passed k i
-  pub none-passed-skipped : first_alike k bound 0 ≡ none → Skipped k bound → Passed k bound
+  pub none_passed_skipped : first_alike k bound 0 ≡ none → Skipped k bound → Passed k bound
 
 -- The key of a text's one code is no number of 32 bits: a code begins with a character, such a number's key with 0.
-abbrev pub No-code-is-a-number : Type 0
-No-code-is-a-number =
-    (s k : Octets) → reading (most * width) s ≡ accepted (k ∷ []) → (n : ℕ) → n < 2 ^ 32 → number-key n ≡ k → ⊥
+abbrev pub NoCodeIsANumber : Type 0
+NoCodeIsANumber =
+    (s k : Octets) → reading (most * width) s ≡ accepted (k ∷ []) → (n : ℕ) → n < 2 ^ 32 → number_key n ≡ k → ⊥
 
 -- what is shown of the listed key k and the number n: the two node records, which differ; the first 2 octets of their SHA-256, which
 -- do not; and the verdicts on the two attestations, under the digest of the list of k alone
 pub record Shown (k : Octets) (n : ℕ) (first second : Octets) : Type 0 where
-  pub first-is : first ≡ node-record none k none
-  pub second_is : second ≡ node-record none (number-key n) none
+  pub first_is : first ≡ node_record none k none
+  pub second_is : second ≡ node_record none (number_key n) none
   pub differ : first ≡ second → ⊥
-  pub two-agree : take 2 (sha256 first) ≡ take 2 (sha256 second)
-  pub judged-absent : verify (label drill) width (number-key n) (digest (label drill) (k ∷ [])) (attestation (label drill) (k ∷ []) (number-key n)) ≡ absent
-  pub judged-present : verify (label drill) width (number-key n) (digest (label drill) (k ∷ [])) (attestation (label drill) (number-key n ∷ []) (number-key n)) ≡ present
+  pub two_agree : take 2 (sha256 first) ≡ take 2 (sha256 second)
+  pub judged_absent : verify (label drill) width (number_key n) (digest (label drill) (k ∷ [])) (attestation (label drill) (k ∷ []) (number_key n)) ≡ absent
+  pub judged_present : verify (label drill) width (number_key n) (digest (label drill) (k ∷ [])) (attestation (label drill) (number_key n ∷ []) (number_key n)) ≡ present
 
 -- For a text that is read as the one key k, and two buffers of 85 octets, a number that the search finds is answered and shown, and is
 -- below the bound.
-abbrev pub Found-is-shown : Type 0
-Found-is-shown =
+abbrev pub FoundIsShown : Type 0
+FoundIsShown =
     (s k : Octets) → reading (most * width) s ≡ accepted (k ∷ [])
     → (bound n : ℕ) → bound < 2 ^ 32 → first_alike k bound 0 ≡ some n
     → (out₁ out₂ : Octets) → length out₁ ≡ 85 → length out₂ ≡ 85
     → (r : Outcome) (out₁' out₂' : Octets) → Drilled s bound out₁ out₂ r out₁' out₂' → (r ≡ Found n) × (n < bound) × Shown k n out₁' out₂'
 
 -- what the answer n tells of a text: it has one key, and n is the number that the search finds for it and is shown
-pub record Found-by (s : Octets) (bound n : ℕ) (out₁' out₂' : Octets) : Type 0 where
+pub record FoundBy (s : Octets) (bound n : ℕ) (out₁' out₂' : Octets) : Type 0 where
   pub listed : Octets
   pub was_read : reading (most * width) s ≡ accepted (listed ∷ [])
-  pub is-first : first_alike listed bound 0 ≡ some n
+  pub is_first : first_alike listed bound 0 ≡ some n
   pub within : n < bound
   pub shown : Shown listed n out₁' out₂'
 
 -- what the answer `None` tells of a text: it has one key, and the search finds nothing for it; both buffers stay
-pub record Found-none (s : Octets) (bound : ℕ) (out₁ out₂ out₁' out₂' : Octets) : Type 0 where
+pub record FoundNone (s : Octets) (bound : ℕ) (out₁ out₂ out₁' out₂' : Octets) : Type 0 where
   pub listed : Octets
   pub was_read : reading (most * width) s ≡ accepted (listed ∷ [])
   pub is_none : first_alike listed bound 0 ≡ none
-  pub first-stays : out₁' ≡ out₁
-  pub second-stays : out₂' ≡ out₂
+  pub first_stays : out₁' ≡ out₁
+  pub second_stays : out₂' ≡ out₂
 
 -- what a refusal m at p tells of a text and two buffers; so the extractor itself never refuses
-pub data Refused-for (s out₁ out₂ : Octets) (m p : ℕ) : Type 0 where
+pub data RefusedFor (s out₁ out₂ : Octets) (m p : ℕ) : Type 0 where
   -- 01, number 1, "an argument has a size it may not have": a buffer is not of 85 octets
-  wrong_size : (length out₁ ≡ 85 → ⊥) ⊎ (length out₂ ≡ 85 → ⊥) → m ≡ size → p ≡ 0 → Refused-for s out₁ out₂ m p
+  wrong_size : (length out₁ ≡ 85 → ⊥) ⊎ (length out₂ ≡ 85 → ⊥) → m ≡ size → p ≡ 0 → RefusedFor s out₁ out₂ m p
   -- reading refuses the text
-  wrong-text : reading (most * width) s ≡ text.refused m p → Refused-for s out₁ out₂ m p
+  wrong_text : reading (most * width) s ≡ text.refused m p → RefusedFor s out₁ out₂ m p
   -- 02 (vi), "16 at 2, last, more than one code for the drill"
-  more-than-one : (ks : List Octets) → reading (most * width) s ≡ accepted ks → 1 < length ks → m ≡ more-codes → p ≡ 2 → Refused-for s out₁ out₂ m p
+  more_than_one : (ks : List Octets) → reading (most * width) s ≡ accepted ks → 1 < length ks → m ≡ more_codes → p ≡ 2 → RefusedFor s out₁ out₂ m p
 
 -- Each answer tells what it was given for, whatever the text and the buffers.
-pub record Answers-tell (s : Octets) (bound : ℕ) (out₁ out₂ out₁' out₂' : Octets) : Type 0 where
-  pub found-tells : bound < 2 ^ 32 → (n : ℕ) → Drilled s bound out₁ out₂ (Found n) out₁' out₂' → Found-by s bound n out₁' out₂'
-  pub none-tells : Drilled s bound out₁ out₂ None out₁' out₂' → Found-none s bound out₁ out₂ out₁' out₂'
-  pub refused-tells : (m p : ℕ) → Drilled s bound out₁ out₂ (Refused m p) out₁' out₂' → Refused-for s out₁ out₂ m p
+pub record AnswersTell (s : Octets) (bound : ℕ) (out₁ out₂ out₁' out₂' : Octets) : Type 0 where
+  pub found_tells : bound < 2 ^ 32 → (n : ℕ) → Drilled s bound out₁ out₂ (Found n) out₁' out₂' → FoundBy s bound n out₁' out₂'
+  pub none_tells : Drilled s bound out₁ out₂ None out₁' out₂' → FoundNone s bound out₁ out₂ out₁' out₂'
+  pub refused_tells : (m p : ℕ) → Drilled s bound out₁ out₂ (Refused m p) out₁' out₂' → RefusedFor s out₁ out₂ m p
 
 pub record Shows : Type 0 where
-  pub first-is-first : (k : Octets) (bound : ℕ) → First-is-first k bound
-  pub no-code-is-a-number : No-code-is-a-number
-  pub found-is-shown : Found-is-shown
-  pub answers-tell : (s : Octets) (bound : ℕ) (out₁ out₂ out₁' out₂' : Octets) → Answers-tell s bound out₁ out₂ out₁' out₂'
+  pub first_is_first : (k : Octets) (bound : ℕ) → FirstIsFirst k bound
+  pub no_code_is_a_number : NoCodeIsANumber
+  pub found_is_shown : FoundIsShown
+  pub answers_tell : (s : Octets) (bound : ℕ) (out₁ out₂ out₁' out₂' : Octets) → AnswersTell s bound out₁ out₂ out₁' out₂'

@@ -10,16 +10,16 @@ use Rattle.contradiction.specs.declared.Outcome.{Outcome}
 use Rattle.contradiction.specs.declared.Outcome.TheVariants.{Found, None}
 
 -- "keys as big-endian numbers": the number n as a key
-abbrev pub number-key : ℕ → Octets
-number-key n = octets 20 n
+abbrev pub number_key : ℕ → Octets
+number_key n = octets 20 n
 
 -- "a one-node tree with the same short label": whether the number's has that of the key k
 unfoldable pub alike : Octets → ℕ → Bool
-alike k n = same (digest (label drill) (number-key n ∷ [])) (digest (label drill) (k ∷ []))
+alike k n = same (digest (label drill) (number_key n ∷ [])) (digest (label drill) (k ∷ []))
 
 -- "the listed one skipped": n, or the number after it where n is the listed key k
 unfoldable pub unlisted : Octets → ℕ → ℕ
-unlisted k n = cond (same (number-key n) k) (suc n) n
+unlisted k n = cond (same (number_key n) k) (suc n) n
 
 -- the first number from n "upward" that is alike, with so many left to try
 unfoldable pub first_alike : Octets → ℕ → ℕ → Option ℕ
@@ -27,6 +27,6 @@ first_alike k zero n = none
 first_alike k (suc left) n = cond (alike k (unlisted k n)) (some (unlisted k n)) (first_alike k left (suc (unlisted k n)))
 
 -- the number that was found, or that there is none
-unfoldable pub trial-answer : Option ℕ → Outcome
-trial-answer none = None
-trial-answer (some n) = Found n
+unfoldable pub trial_answer : Option ℕ → Outcome
+trial_answer none = None
+trial_answer (some n) = Found n

@@ -1,7 +1,7 @@
 // What the extractor makes of the listed key and a number that is alike.
 ghost use Rattle.std.specs.Prelude.{◌≡◌, length};
-ghost use Rattle.contradiction.specs.Trial.{number-key};
-ghost use Rattle.contradiction.specs.Drill.{Drilling, handed, Carried-out};
+ghost use Rattle.contradiction.specs.Trial.{number_key};
+ghost use Rattle.contradiction.specs.Drill.{Drilling, handed, CarriedOut};
 
 use super::{Outcome, number};
 use answer::Answer;
@@ -10,7 +10,7 @@ use answer::Answer;
 // out1 and out2.
 pub fn hand_over(listed: &[u8], n: u32, out1: &mut [u8], out2: &mut [u8]) -> Outcome
     requires { (length listed.now ≡ 20) × (length out1.old ≡ 85) × (length out2.old ≡ 85) }
-    ensures { Carried-out (Drilling.number n (handed listed.now (number-key n))) out1.old out2.old result out1.new out2.new }
+    ensures { CarriedOut (Drilling.number n (handed listed.now (number_key n))) out1.old out2.old result out1.new out2.new }
 {
     let x = number::key(n);
     let mut digest = [0u8; 32];

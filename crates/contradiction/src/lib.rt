@@ -6,7 +6,7 @@ mod trial;
 
 ghost use Rattle.std.specs.Prelude.{◌≡◌, length};
 ghost use Rattle.contradiction.specs.Trial.{first_alike};
-ghost use Rattle.contradiction.specs.Drill.{tried, Carried-out, Drilled, drill-packed};
+ghost use Rattle.contradiction.specs.Drill.{tried, CarriedOut, Drilled, drill_packed};
 
 use answer::Answer;
 
@@ -21,7 +21,7 @@ pub enum Outcome {
 // Tries at most `bound` numbers for the listed key, and hands the first that is alike to the extractor.
 fn contradict(listed: &[u8], bound: u32, out1: &mut [u8], out2: &mut [u8]) -> Outcome
     requires { (length listed.now ≡ 20) × (length out1.old ≡ 85) × (length out2.old ≡ 85) }
-    ensures { Carried-out (tried listed.now (first_alike listed.now bound 0)) out1.old out2.old result out1.new out2.new }
+    ensures { CarriedOut (tried listed.now (first_alike listed.now bound 0)) out1.old out2.old result out1.new out2.new }
 {
     let t = trial::first_alike(listed, bound);
     let Outcome::Found(n) = t else {
@@ -66,7 +66,7 @@ pub fn drill(text: &[u8], bound: u32, out1: &mut [u8], out2: &mut [u8]) -> Outco
 
 // The outcome as one number, for callers in other languages.
 pub fn pack_drill(o: Outcome) -> u64
-    ensures { result ≡ drill-packed o }
+    ensures { result ≡ drill_packed o }
 {
     match o {
         Outcome::Found(n) => n as u64,

@@ -3,14 +3,14 @@ ghost use Rattle.std.specs.Prelude.{◌≡◌, [], ◌∷◌, ◌<◌, ◌^◌, 
 ghost use Rattle.octets.specs.Order.{same};
 ghost use Rattle.profile.specs.Profile as profiles;
 ghost use Rattle.attester.specs.Label.{digest};
-ghost use Rattle.contradiction.specs.Trial.{number-key, first_alike, trial-answer};
+ghost use Rattle.contradiction.specs.Trial.{number_key, first_alike, trial_answer};
 ghost use Rattle.contradiction.specs.Trial as specs;
 
 use super::{Outcome, number};
 
 // Whether the one-node tree of the number has the label d.
 fn alike(d: &[u8], n: u32) -> bool
-    ensures { result ≡ same (digest (profiles.label profiles.drill) (number-key n ∷ [])) d.now }
+    ensures { result ≡ same (digest (profiles.label profiles.drill) (number_key n ∷ [])) d.now }
 {
     octets::same(&tree::labels::label(profile::DRILL, &number::key(n)), d)
 }
@@ -31,7 +31,7 @@ fn unlisted(listed: &[u8], n: usize) -> usize
 // where a number was skipped, of 2^32 - 1 tries the last is then the number 2^32 - 1, and n ends past it.
 pub fn first_alike(listed: &[u8], bound: u32) -> Outcome
     requires { length listed.now ≡ 20 }
-    ensures { result ≡ trial-answer (first_alike listed.now bound 0) }
+    ensures { result ≡ trial_answer (first_alike listed.now bound 0) }
 {
     let d = tree::labels::label(profile::DRILL, listed);
     let mut n = 0;

@@ -8,22 +8,22 @@ use Rattle.answer.specs.declared.Answer.{Answer}
 use Rattle.answer.specs.declared.Answer.TheVariants.{Done, Refused}
 use Rattle.octets.specs.Order.{Octets}
 use Rattle.profile.specs.Profile.{full, label}
-use Rattle.profile.proofs.ProfileLaws.{full-known}
+use Rattle.profile.proofs.ProfileLaws.{full_known}
 use Rattle.attester.specs.Label.{digest}
 use Rattle.codes.specs.Text.{Reading, accepted, refused, reading}
 use Rattle.codes.specs.Read.{Read, answer}
 use Rattle.codes.proofs.AcceptedLaws.{writable}
 use Rattle.tree.specs.Digest.{Digested}
-use Rattle.show.specs.Refusal.{refusal-line}
-use Rattle.show.proofs.DecimalLaws.{decimal-length}
-use Rattle.show.proofs.HexLaws.{hex-length}
-use Rattle.sagebutton.proofs.Demand2.{digest-of-reading}
-use Rattle.digest.specs.Line.{accepted-line, shown, digest-line}
+use Rattle.show.specs.Refusal.{refusal_line}
+use Rattle.show.proofs.DecimalLaws.{decimal_length}
+use Rattle.show.proofs.HexLaws.{hex_length}
+use Rattle.sagebutton.proofs.Demand2.{digest_of_reading}
+use Rattle.digest.specs.Line.{accepted_line, shown, digest_line}
 
-answer-refused : (r : Reading) (m p : ℕ) → Refused m p ≡ answer r → r ≡ refused m p
+answer_refused : (r : Reading) (m p : ℕ) → Refused m p ≡ answer r → r ≡ refused m p
 unfolding answer
-answer-refused (accepted ks) m p e = cc
-answer-refused (refused n q) m p e = cc
+answer_refused (accepted ks) m p e = cc
+answer_refused (refused n q) m p e = cc
 
 -- the buffer takes all the keys that are answered
 pub read_fits : (text out : Octets) (n : ℕ) (out' : Octets) → Read text out (Done n) out' → 20 * n ≤ length out
@@ -34,26 +34,26 @@ unfolding answer
 same_count n ks a = cc
 
 module _ (text keys : Octets) (big : length keys ≡ 60000) where
-  pub line_refused : (m p : ℕ) (keys' : Octets) → Read text keys (Refused m p) keys' → refusal-line m p ≡ digest-line text
-  unfolding digest-line shown
+  pub line_refused : (m p : ℕ) (keys' : Octets) → Read text keys (Refused m p) keys' → refusal_line m p ≡ digest_line text
+  unfolding digest_line shown
   line_refused m p keys' r =
-      let e : reading 60000 text ≡ refused m p = rw big at (answer-refused (reading (length keys) text) m p r.answered) in
+      let e : reading 60000 text ≡ refused m p = rw big at (answer_refused (reading (length keys) text) m p r.answered) in
       rw e
 
   line_of : (n : ℕ) (ks : List Octets) (d : Octets) → Done n ≡ answer (reading (length keys) text) → reading (length keys) text ≡ accepted ks
-      → d ≡ digest (label full) ks → accepted-line n d ≡ digest-line text
-  unfolding digest-line shown
+      → d ≡ digest (label full) ks → accepted_line n d ≡ digest_line text
+  unfolding digest_line shown
   line_of n ks d a e w =
       let e' : reading 60000 text ≡ accepted ks = rw big at e in
       let c : n ≡ length ks = same_count n ks (rw e at a) in
       rw (e', w, c)
 
-  pub line-accepted : (n : ℕ) (keys' d : Octets) (b : Answer) (d' : Octets) → Read text keys (Done n) keys' → length d ≡ 32
-      → Digested full (take (20 * n) keys') d b d' → accepted-line n d' ≡ digest-line text
-  line-accepted n keys' d b d' r d32 g =
-      let h = digest-of-reading full full-known text keys n keys' r d d32 b d' g in
+  pub line_accepted : (n : ℕ) (keys' d : Octets) (b : Answer) (d' : Octets) → Read text keys (Done n) keys' → length d ≡ 32
+      → Digested full (take (20 * n) keys') d b d' → accepted_line n d' ≡ digest_line text
+  line_accepted n keys' d b d' r d32 g =
+      let h = digest_of_reading full full_known text keys n keys' r d d32 b d' g in
       line_of n h.keys d' r.answered h.read h.written
 
-pub accepted-length : (n : ℕ) (d : Octets) → n < 2 ^ 32 → length d ≡ 32 → length (accepted-line n d) ≤ 96
-unfolding accepted-line
-accepted-length n d h k = simp length-append (omega (arith, decimal-length 9 n (omega arith), hex-length d))
+pub accepted_length : (n : ℕ) (d : Octets) → n < 2 ^ 32 → length d ≡ 32 → length (accepted_line n d) ≤ 96
+unfolding accepted_line
+accepted_length n d h k = simp length-append (omega (arith, decimal_length 9 n (omega arith), hex_length d))

@@ -1,14 +1,14 @@
 // The line that the program prints.
 ghost use Rattle.std.specs.Prelude.{◌≡◌, ◌+◌, ◌≤◌, length};
 ghost use Rattle.octets.specs.Put.{Wrote};
-ghost use Rattle.digest.specs.Line.{accepted-line, digest-line};
+ghost use Rattle.digest.specs.Line.{accepted_line, digest_line};
 
 use answer::Answer;
 
 // Writes the line of an accepted list at the front of out, and returns its length.
 fn put_accepted(out: &mut [u8], n: u32, digest: &[u8; 32]) -> usize
     requires { 96 ≤ length out.old }
-    ensures { Wrote out.old 0 (accepted-line n digest.now) out.new result }
+    ensures { Wrote out.old 0 (accepted_line n digest.now) out.new result }
 {
     let a = octets::put(out, 0, b"digest ");
     let b = show::put_decimal(out, a, n);
@@ -20,7 +20,7 @@ fn put_accepted(out: &mut [u8], n: u32, digest: &[u8; 32]) -> usize
 // Writes the line for a list's text at the front of out, and returns its length.
 pub fn digest_line(text: &[u8], out: &mut [u8]) -> usize
     requires { 96 ≤ length out.old }
-    ensures { (Wrote out.old 0 (digest-line text.now) out.new result) × (result ≤ 96) }
+    ensures { (Wrote out.old 0 (digest_line text.now) out.new result) × (result ≤ 96) }
 {
     let mut keys = [0u8; 60000];
     let a = sagebutton::read_list(text, &mut keys);

@@ -1,14 +1,14 @@
 // The lines that the program prints.
 ghost use Rattle.std.specs.Prelude.{◌≤◌, length};
 ghost use Rattle.octets.specs.Put.{Wrote};
-ghost use Rattle.drill.specs.Line.{record-lines, drill-lines};
+ghost use Rattle.drill.specs.Line.{record_lines, drill_lines};
 
 use contradiction::Outcome;
 
 // Writes the two records' lines at the front of out, and returns their length.
 fn put_records(out: &mut [u8], first: &[u8; 85], second: &[u8; 85]) -> usize
     requires { 342 ≤ length out.old }
-    ensures { Wrote out.old 0 (record-lines first.now second.now) out.new result }
+    ensures { Wrote out.old 0 (record_lines first.now second.now) out.new result }
 {
     let a = show::put_hex(out, 0, first);
     let b = octets::put(out, a, b"\n");
@@ -19,7 +19,7 @@ fn put_records(out: &mut [u8], first: &[u8; 85], second: &[u8; 85]) -> usize
 // Writes the lines for a list's text at the front of out, and returns their length.
 pub fn drill_lines(text: &[u8], out: &mut [u8]) -> usize
     requires { 342 ≤ length out.old }
-    ensures { (Wrote out.old 0 (drill-lines text.now) out.new result) × (result ≤ 342) }
+    ensures { (Wrote out.old 0 (drill_lines text.now) out.new result) × (result ≤ 342) }
 {
     let mut first = [0u8; 85];
     let mut second = [0u8; 85];

@@ -8,28 +8,28 @@ use native.Mathlib.Omega.{arith}
 use lib.ListN.{length}
 use Rattle.octets.specs.Order.{Octets, order, same}
 use Rattle.profile.specs.Profile.{label}
-use Rattle.profile.proofs.ProfileLaws.{label-length}
+use Rattle.profile.proofs.ProfileLaws.{label_length}
 use Rattle.attester.specs.Entry.{key}
-use Rattle.attester.specs.Tree.{leaf, tree-within, tree}
+use Rattle.attester.specs.Tree.{leaf, tree_within, tree}
 use Rattle.attester.specs.Label as labels
 use Rattle.attester.specs.Listing.{Listing}
 use Rattle.attester.specs.Depth.{depth, bit_length}
-use Rattle.attester.specs.Path.{foot-entry}
+use Rattle.attester.specs.Path.{foot_entry}
 use Rattle.attester.specs.Reader.{octet, block, many}
-use Rattle.attester.specs.Form.{ended, spoilt, is-count, sections, placed, form}
+use Rattle.attester.specs.Form.{ended, spoilt, is_count, sections, placed, form}
 use Rattle.attester.specs.Verdict.{side}
 use Rattle.attester.specs.Search.{search, listed}
 use Rattle.attester.specs.Attestation.{attestation}
-use Rattle.attester.proofs.LengthLaws.{levels-length, render-levels}
-use Rattle.attester.proofs.DepthLaws.{depth-of-tree, bit-length-between}
-use Rattle.attester.proofs.AttestationLaws.{issued-sized}
-use Rattle.attester.proofs.VerifyLaws.{verify-ended, verify-spoilt}
+use Rattle.attester.proofs.LengthLaws.{levels_length, render_levels}
+use Rattle.attester.proofs.DepthLaws.{depth_of_tree, bit_length_between}
+use Rattle.attester.proofs.AttestationLaws.{issued_sized}
+use Rattle.attester.proofs.VerifyLaws.{verify_ended, verify_spoilt}
 use Rattle.codes.specs.Code.{within, all, digit, key_of}
 use Rattle.codes.specs.Count as count
 use Rattle.codes.specs.Text as text
 use Rattle.tree.specs.Edition.{width, most}
-use Rattle.examples.specs.F.{code-1-1, code-2-7, code-3-4, code-3-40, code-A-2, code-3-39, code-1, F}
-use Rattle.examples.specs.Box.{over, lone, text-0, text-00, Examples-hold}
+use Rattle.examples.specs.F.{code_1_1, code_2_7, code_3_4, code_3_40, code_A_2, code_3_39, code_1, F}
+use Rattle.examples.specs.Box.{over, lone, text_0, text_00, ExamplesHold}
 
 -- one proof after another
 infixr 10 ◌also◌
@@ -38,14 +38,14 @@ infixr 10 ◌also◌
 
 -- F
 
-F-is : tree F ≡ over code-3-4 (over code-2-7 (lone code-1-1) leaf) (over code-A-2 (lone code-3-40) leaf)
-unfolding tree tree-within
-F-is = refl
+F_is : tree F ≡ over code_3_4 (over code_2_7 (lone code_1_1) leaf) (over code_A_2 (lone code_3_40) leaf)
+unfolding tree tree_within
+F_is = refl
 
-pub F-listing : Listing width most F
+pub F_listing : Listing width most F
 unfolding key_of key order
-F-listing = record {
-  some-entry = omega arith;
+F_listing = record {
+  some_entry = omega arith;
   few = omega arith;
   sized = refl also refl also refl also refl also refl also tt;
   ascending =
@@ -57,95 +57,95 @@ F-listing = record {
       also tt;
 }
 
-absent-3-39 : listed (key_of code-3-39) F ≡ false
+absent_3_39 : listed (key_of code_3_39) F ≡ false
 unfolding listed same key key_of order
-absent-3-39 = refl
+absent_3_39 = refl
 
-absent-1 : listed (key_of code-1) F ≡ false
+absent_1 : listed (key_of code_1) F ≡ false
 unfolding listed same key key_of order
-absent-1 = refl
+absent_1 = refl
 
 -- The attestations, whatever the labels
 
 module _ (profile : ℕ) where
   -- the length of an attestation under F, by its levels
-  F-gives : (x : Octets) (n : ℕ) → 3 + levels-length width (search (label profile) x (tree F)) ≡ n → length (attestation (label profile) F x) ≡ n
+  F_gives : (x : Octets) (n : ℕ) → 3 + levels_length width (search (label profile) x (tree F)) ≡ n → length (attestation (label profile) F x) ≡ n
   unfolding attestation
-  F-gives x n e = render-levels width (search (label profile) x (tree F)) (issued-sized (label profile) (label-length profile) width most F x F-listing) ∙ e
+  F_gives x n e = render_levels width (search (label profile) x (tree F)) (issued_sized (label profile) (label_length profile) width most F x F_listing) ∙ e
 
-  gives-3-4 : length (attestation (label profile) F (key_of code-3-4)) ≡ 88
-  unfolding tree tree-within search side key key_of order labels.label levels-length
-  gives-3-4 = F-gives (key_of code-3-4) 88 refl
+  gives_3_4 : length (attestation (label profile) F (key_of code_3_4)) ≡ 88
+  unfolding tree tree_within search side key key_of order labels.label levels_length
+  gives_3_4 = F_gives (key_of code_3_4) 88 refl
 
-  gives-1-1 : length (attestation (label profile) F (key_of code-1-1)) ≡ 98
-  unfolding tree tree-within search side key key_of order labels.label levels-length
-  gives-1-1 = F-gives (key_of code-1-1) 98 refl
+  gives_1_1 : length (attestation (label profile) F (key_of code_1_1)) ≡ 98
+  unfolding tree tree_within search side key key_of order labels.label levels_length
+  gives_1_1 = F_gives (key_of code_1_1) 98 refl
 
-  gives-3-39 : length (attestation (label profile) F (key_of code-3-39)) ≡ 109
-  unfolding tree tree-within search side key key_of order labels.label levels-length
-  gives-3-39 = F-gives (key_of code-3-39) 109 refl
+  gives_3_39 : length (attestation (label profile) F (key_of code_3_39)) ≡ 109
+  unfolding tree tree_within search side key key_of order labels.label levels_length
+  gives_3_39 = F_gives (key_of code_3_39) 109 refl
 
-  gives-1 : length (attestation (label profile) F (key_of code-1)) ≡ 98
-  unfolding tree tree-within search side key key_of order labels.label levels-length
-  gives-1 = F-gives (key_of code-1) 98 refl
+  gives_1 : length (attestation (label profile) F (key_of code_1)) ≡ 98
+  unfolding tree tree_within search side key key_of order labels.label levels_length
+  gives_1 = F_gives (key_of code_1) 98 refl
 
-  foot-3-39 : foot-entry (search (label profile) (key_of code-3-39) (tree F)) ≡ key_of code-2-7
-  unfolding tree tree-within search side key key_of order foot-entry
-  foot-3-39 = refl
+  foot_3_39 : foot_entry (search (label profile) (key_of code_3_39) (tree F)) ≡ key_of code_2_7
+  unfolding tree tree_within search side key key_of order foot_entry
+  foot_3_39 = refl
 
-  foot-1 : foot-entry (search (label profile) (key_of code-1) (tree F)) ≡ key_of code-1-1
-  unfolding tree tree-within search side key key_of order foot-entry
-  foot-1 = refl
+  foot_1 : foot_entry (search (label profile) (key_of code_1) (tree F)) ≡ key_of code_1_1
+  unfolding tree tree_within search side key key_of order foot_entry
+  foot_1 = refl
 
 -- Depths
 
-depth-between : (b n : ℕ) → 2 ^ b ≤ n → n < 2 ^ suc b → (keys : List Octets) → length keys ≡ n → depth (tree keys) ≡ suc b
-depth-between b n least most keys e = depth-of-tree keys ∙ (ap bit_length e ∙ bit-length-between b n least most)
+depth_between : (b n : ℕ) → 2 ^ b ≤ n → n < 2 ^ suc b → (keys : List Octets) → length keys ≡ n → depth (tree keys) ≡ suc b
+depth_between b n least most keys e = depth_of_tree keys ∙ (ap bit_length e ∙ bit_length_between b n least most)
 
 -- Attestations
 
-empty-ends : form width [] ≡ ended 0
+empty_ends : form width [] ≡ ended 0
 unfolding form sections octet placed
-empty-ends = refl
+empty_ends = refl
 
-lone-ends : form width (1 ∷ []) ≡ ended 1
-unfolding form sections octet is-count many block placed
-lone-ends = refl
+lone_ends : form width (1 ∷ []) ≡ ended 1
+unfolding form sections octet is_count many block placed
+lone_ends = refl
 
-K-33-spoils : (rest : Octets) → form width (33 ∷ [] ++ rest) ≡ spoilt 0
-unfolding form sections octet is-count placed
-K-33-spoils rest = ap spoilt (omega arith)
+K_33_spoils : (rest : Octets) → form width (33 ∷ [] ++ rest) ≡ spoilt 0
+unfolding form sections octet is_count placed
+K_33_spoils rest = ap spoilt (omega arith)
 
 -- Texts
 
-reading-0 : (room : ℕ) → text.reading room text-0 ≡ text.refused 2 2
-unfolding text.reading text.opening text.second-line text.ended text.before-LF text.line text.rest text.counted order same within all digit count.is-count count.number count.number-after
-reading-0 room = refl
+reading_0 : (room : ℕ) → text.reading room text_0 ≡ text.refused 2 2
+unfolding text.reading text.opening text.second_line text.ended text.before_LF text.line text.rest text.counted order same within all digit count.is_count count.number count.number_after
+reading_0 room = refl
 
-reading-00 : (room : ℕ) → text.reading room text-00 ≡ text.refused 12 2
-unfolding text.reading text.opening text.second-line text.ended text.before-LF text.line order same within all digit count.is-count
-reading-00 room = refl
+reading_00 : (room : ℕ) → text.reading room text_00 ≡ text.refused 12 2
+unfolding text.reading text.opening text.second_line text.ended text.before_LF text.line order same within all digit count.is_count
+reading_00 room = refl
 
-pub examples-hold : Examples-hold
-examples-hold profile =
-    F-is
-    also gives-3-4 profile
-    also gives-1-1 profile
-    also absent-3-39
-    also gives-3-39 profile
-    also foot-3-39 profile
-    also absent-1
-    also gives-1 profile
-    also foot-1 profile
-    also depth-between 0 1 (omega arith) (omega arith)
-    also depth-between 1 2 (omega arith) (omega arith)
-    also depth-between 1 3 (omega arith) (omega arith)
-    also depth-between 2 7 (omega arith) (omega arith)
-    also depth-between 3 8 (omega arith) (omega arith)
-    also depth-between 11 3000 (omega arith) (omega arith)
-    also (λ x d n m. verify-ended (label profile) width x d [] n m 0 empty-ends)
-    also (λ rest x d n m. verify-spoilt (label profile) width x d (33 ∷ [] ++ rest) n m 0 (K-33-spoils rest))
-    also (λ x d n m. verify-ended (label profile) width x d (1 ∷ []) n m 1 lone-ends)
-    also reading-0
-    also reading-00
+pub examples_hold : ExamplesHold
+examples_hold profile =
+    F_is
+    also gives_3_4 profile
+    also gives_1_1 profile
+    also absent_3_39
+    also gives_3_39 profile
+    also foot_3_39 profile
+    also absent_1
+    also gives_1 profile
+    also foot_1 profile
+    also depth_between 0 1 (omega arith) (omega arith)
+    also depth_between 1 2 (omega arith) (omega arith)
+    also depth_between 1 3 (omega arith) (omega arith)
+    also depth_between 2 7 (omega arith) (omega arith)
+    also depth_between 3 8 (omega arith) (omega arith)
+    also depth_between 11 3000 (omega arith) (omega arith)
+    also (λ x d n m. verify_ended (label profile) width x d [] n m 0 empty_ends)
+    also (λ rest x d n m. verify_spoilt (label profile) width x d (33 ∷ [] ++ rest) n m 0 (K_33_spoils rest))
+    also (λ x d n m. verify_ended (label profile) width x d (1 ∷ []) n m 1 lone_ends)
+    also reading_0
+    also reading_00
     also tt

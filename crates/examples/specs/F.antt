@@ -4,33 +4,33 @@ use Rattle.octets.specs.Order.{Octets}
 use Rattle.codes.specs.Code.{key_of}
 
 -- 1-1
-abbrev pub code-1-1 : Octets
-code-1-1 = 0x31 ∷ 0x2D ∷ 0x31 ∷ []
+abbrev pub code_1_1 : Octets
+code_1_1 = 0x31 ∷ 0x2D ∷ 0x31 ∷ []
 
 -- 2-7
-abbrev pub code-2-7 : Octets
-code-2-7 = 0x32 ∷ 0x2D ∷ 0x37 ∷ []
+abbrev pub code_2_7 : Octets
+code_2_7 = 0x32 ∷ 0x2D ∷ 0x37 ∷ []
 
 -- 3-4
-abbrev pub code-3-4 : Octets
-code-3-4 = 0x33 ∷ 0x2D ∷ 0x34 ∷ []
+abbrev pub code_3_4 : Octets
+code_3_4 = 0x33 ∷ 0x2D ∷ 0x34 ∷ []
 
 -- 3-40
-abbrev pub code-3-40 : Octets
-code-3-40 = 0x33 ∷ 0x2D ∷ 0x34 ∷ 0x30 ∷ []
+abbrev pub code_3_40 : Octets
+code_3_40 = 0x33 ∷ 0x2D ∷ 0x34 ∷ 0x30 ∷ []
 
 -- A-2
-abbrev pub code-A-2 : Octets
-code-A-2 = 0x41 ∷ 0x2D ∷ 0x32 ∷ []
+abbrev pub code_A_2 : Octets
+code_A_2 = 0x41 ∷ 0x2D ∷ 0x32 ∷ []
 
 -- 3-39
-abbrev pub code-3-39 : Octets
-code-3-39 = 0x33 ∷ 0x2D ∷ 0x33 ∷ 0x39 ∷ []
+abbrev pub code_3_39 : Octets
+code_3_39 = 0x33 ∷ 0x2D ∷ 0x33 ∷ 0x39 ∷ []
 
 -- 1
-abbrev pub code-1 : Octets
-code-1 = 0x31 ∷ []
+abbrev pub code_1 : Octets
+code_1 = 0x31 ∷ []
 
 -- "List F is 1-1, 2-7, 3-4, 3-40, A-2": its keys
 abbrev pub F : List Octets
-F = map key_of (code-1-1 ∷ code-2-7 ∷ code-3-4 ∷ code-3-40 ∷ code-A-2 ∷ [])
+F = map key_of (code_1_1 ∷ code_2_7 ∷ code_3_4 ∷ code_3_40 ∷ code_A_2 ∷ [])

@@ -11,23 +11,23 @@ use Rattle.attester.proofs.FormLaws.{and_both}
 use Rattle.tree.specs.Edition.{width}
 
 module _ (x d n m : ℕ) where
-  pub wrong-key : (x ≡ 20 → ⊥) → false ≡ sized 20 x d n m
+  pub wrong_key : (x ≡ 20 → ⊥) → false ≡ sized 20 x d n m
   unfolding sized
-  wrong-key h = rw (ne_eqb x 20 h)
+  wrong_key h = rw (ne_eqb x 20 h)
 
   module _ (ex : x ≡ 20) where
-    pub wrong-digest : (d ≡ 32 → ⊥) → false ≡ sized 20 x d n m
+    pub wrong_digest : (d ≡ 32 → ⊥) → false ≡ sized 20 x d n m
     unfolding sized
-    wrong-digest h = rw (eq-eqb x 20 ex, ne_eqb d 32 h)
+    wrong_digest h = rw (eq-eqb x 20 ex, ne_eqb d 32 h)
 
     module _ (ed : d ≡ 32) where
       pub wrong_first : (n ≡ 85 → ⊥) → false ≡ sized 20 x d n m
       unfolding sized
       wrong_first h = rw (eq-eqb x 20 ex, eq-eqb d 32 ed, ne_eqb n 85 h)
 
-      pub right-first : n ≡ 85 → eqb m 85 ≡ sized 20 x d n m
+      pub right_first : n ≡ 85 → eqb m 85 ≡ sized 20 x d n m
       unfolding sized
-      right-first h = rw (eq-eqb x 20 ex, eq-eqb d 32 ed, eq-eqb n 85 h)
+      right_first h = rw (eq-eqb x 20 ex, eq-eqb d 32 ed, eq-eqb n 85 h)
 
 -- right sizes are those of the buffers
 pub buffers : (x d o₁ o₂ : Octets) → sized width (length x) (length d) (length o₁) (length o₂) ≡ true → (length o₁ ≡ 85) × (length o₂ ≡ 85)

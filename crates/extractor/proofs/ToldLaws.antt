@@ -9,22 +9,22 @@ use Rattle.answer.specs.declared.Answer.TheVariants.{Done}
 use Rattle.answer.specs.declared.Answer.TheVariants as answer
 use Rattle.answer.specs.declared.Verdict.{Verdict}
 use Rattle.answer.specs.declared.Verdict.TheVariants.{Present, Absent, Refused}
-use Rattle.answer.specs.Answer.{present-number, verdict-packed}
+use Rattle.answer.specs.Answer.{present_number, verdict_packed}
 use Rattle.answer.specs.contracts.Verdict.{the_type}
 use Rattle.extractor.specs.Told.{told}
 
-pub told-accepted : (which : ℕ) (v : Verdict) (n : ℕ) → OneOf (0 ∷ 1 ∷ []) (tag_of the_type v) → n ≡ verdict-packed v → Done n ≡ told which v
+pub told_accepted : (which : ℕ) (v : Verdict) (n : ℕ) → OneOf (0 ∷ 1 ∷ []) (tag_of the_type v) → n ≡ verdict_packed v → Done n ≡ told which v
 unfolding told
-told-accepted which Present n k e = rw e
-told-accepted which Absent n k e = rw e
-told-accepted which (Refused m p) n k e = absurd (miss (0 ∷ 1 ∷ []) 2 tt k)
+told_accepted which Present n k e = rw e
+told_accepted which Absent n k e = rw e
+told_accepted which (Refused m p) n k e = absurd (miss (0 ∷ 1 ∷ []) 2 tt k)
 
 -- it fits 32 bits
-pub told-small : (v : Verdict) (n : ℕ) → OneOf (0 ∷ 1 ∷ []) (tag_of the_type v) → n ≡ verdict-packed v → n ≤ present-number
-told-small Present n k e = rw e (omega arith)
-told-small Absent n k e = rw e (omega arith)
-told-small (Refused m p) n k e = absurd (miss (0 ∷ 1 ∷ []) 2 tt k)
+pub told_small : (v : Verdict) (n : ℕ) → OneOf (0 ∷ 1 ∷ []) (tag_of the_type v) → n ≡ verdict_packed v → n ≤ present_number
+told_small Present n k e = rw e (omega arith)
+told_small Absent n k e = rw e (omega arith)
+told_small (Refused m p) n k e = absurd (miss (0 ∷ 1 ∷ []) 2 tt k)
 
-pub told-refused : (which : ℕ) (v : Verdict) {m p : ℕ} → v ≡ Refused m p → answer.Refused m which ≡ told which v
+pub told_refused : (which : ℕ) (v : Verdict) {m p : ℕ} → v ≡ Refused m p → answer.Refused m which ≡ told which v
 unfolding told
-told-refused which v e = rw e
+told_refused which v e = rw e

@@ -3,7 +3,7 @@ ghost use Rattle.std.specs.Prelude.{◌≡◌, ◌<◌, get_or};
 ghost use Rattle.std.proofs.Math.Option.{some};
 ghost use Rattle.octets.specs.Order.{same};
 ghost use Rattle.attester.specs.Path.{down};
-ghost use Rattle.attester.specs.Verdict.{root-record};
+ghost use Rattle.attester.specs.Verdict.{root_record};
 ghost use Rattle.attester.specs.Walk.{walk};
 ghost use Rattle.attester.specs.Demand3.{Walked};
 ghost use Rattle.profile.specs.Profile.{label};
@@ -13,7 +13,7 @@ ghost use Rattle.extractor.specs.Walk.{pair};
 // Whether the two records, in a profile, i levels below the roots are the same.
 fn agree(profile: u32, first: &[u8], second: &[u8], x: &[u8], i: usize) -> bool
     requires { Formed first.now × Formed second.now × (i < get_or first.now 0 0) × (i < get_or second.now 0 0) }
-    ensures { result ≡ same (root-record (label profile) x.now (down i (shown first.now))) (root-record (label profile) x.now (down i (shown second.now))) }
+    ensures { result ≡ same (root_record (label profile) x.now (down i (shown first.now))) (root_record (label profile) x.now (down i (shown second.now))) }
 {
     octets::same(
         &attestation::judge::record(profile, first, x, i),

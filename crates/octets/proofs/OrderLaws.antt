@@ -8,7 +8,7 @@ use Prim.Native.Nat.{ℕ, zero, suc, ◌<◌, suc-le-suc, compare, Ordering}
 use native.Mathlib.Nat.{le_of_suc-le-suc, not-suc-le-zero}
 use native.Mathlib.Omega.{arith}
 use lib.Dec.{compare_is_eq}
-use Rattle.octets.specs.Order.{Octets, or_else, order, same, is-less}
+use Rattle.octets.specs.Order.{Octets, or_else, order, same, is_less}
 
 abbrev pub flip : Ordering → Ordering
 flip Ordering.lt = Ordering.gt
@@ -17,81 +17,81 @@ flip Ordering.gt = Ordering.lt
 
 -- Numbers
 
-compare-eq : (a b : ℕ) → compare a b ≡ Ordering.eq → a ≡ b
-compare-eq zero zero e = refl
-compare-eq zero (suc b) e = cc (compare.zero-suc b)
-compare-eq (suc a) zero e = cc (compare.suc-zero a)
-compare-eq (suc a) (suc b) e = ap suc (compare-eq a b (sym (compare.suc-suc a b) ∙ e))
+compare_eq : (a b : ℕ) → compare a b ≡ Ordering.eq → a ≡ b
+compare_eq zero zero e = refl
+compare_eq zero (suc b) e = cc (compare.zero-suc b)
+compare_eq (suc a) zero e = cc (compare.suc-zero a)
+compare_eq (suc a) (suc b) e = ap suc (compare_eq a b (sym (compare.suc-suc a b) ∙ e))
 
 pub compare_refl : (a : ℕ) → compare a a ≡ Ordering.eq
 compare_refl zero = compare.zero-zero
 compare_refl (suc a) = compare.suc-suc a a ∙ compare_refl a
 
-pub compare-flip : (a b : ℕ) → compare b a ≡ flip (compare a b)
-compare-flip zero zero = cc compare.zero-zero
-compare-flip zero (suc b) = cc (compare.zero-suc b, compare.suc-zero b)
-compare-flip (suc a) zero = cc (compare.zero-suc a, compare.suc-zero a)
-compare-flip (suc a) (suc b) = cc (compare.suc-suc a b, compare.suc-suc b a, compare-flip a b)
+pub compare_flip : (a b : ℕ) → compare b a ≡ flip (compare a b)
+compare_flip zero zero = cc compare.zero-zero
+compare_flip zero (suc b) = cc (compare.zero-suc b, compare.suc-zero b)
+compare_flip (suc a) zero = cc (compare.zero-suc a, compare.suc-zero a)
+compare_flip (suc a) (suc b) = cc (compare.suc-suc a b, compare.suc-suc b a, compare_flip a b)
 
-compare-lt : (a b : ℕ) → compare a b ≡ Ordering.lt → a < b
-compare-lt zero zero e = let z : ◌≡◌ {A = ℕ} 0 1 = cc compare.zero-zero in omega arith
-compare-lt zero (suc b) e = omega arith
-compare-lt (suc a) zero e = let z : ◌≡◌ {A = ℕ} 0 1 = cc (compare.suc-zero a) in omega arith
-compare-lt (suc a) (suc b) e = suc-le-suc (compare-lt a b (sym (compare.suc-suc a b) ∙ e))
+compare_lt : (a b : ℕ) → compare a b ≡ Ordering.lt → a < b
+compare_lt zero zero e = let z : ◌≡◌ {A = ℕ} 0 1 = cc compare.zero-zero in omega arith
+compare_lt zero (suc b) e = omega arith
+compare_lt (suc a) zero e = let z : ◌≡◌ {A = ℕ} 0 1 = cc (compare.suc-zero a) in omega arith
+compare_lt (suc a) (suc b) e = suc-le-suc (compare_lt a b (sym (compare.suc-suc a b) ∙ e))
 
-pub lt-compare : (a b : ℕ) → a < b → compare a b ≡ Ordering.lt
-lt-compare zero zero h = absurd (not-suc-le-zero h)
-lt-compare zero (suc b) h = compare.zero-suc b
-lt-compare (suc a) zero h = absurd (not-suc-le-zero h)
-lt-compare (suc a) (suc b) h = compare.suc-suc a b ∙ lt-compare a b (le_of_suc-le-suc h)
+pub lt_compare : (a b : ℕ) → a < b → compare a b ≡ Ordering.lt
+lt_compare zero zero h = absurd (not-suc-le-zero h)
+lt_compare zero (suc b) h = compare.zero-suc b
+lt_compare (suc a) zero h = absurd (not-suc-le-zero h)
+lt_compare (suc a) (suc b) h = compare.suc-suc a b ∙ lt_compare a b (le_of_suc-le-suc h)
 
-compare-trans : (a b c : ℕ) → compare a b ≡ Ordering.lt → compare b c ≡ Ordering.lt → compare a c ≡ Ordering.lt
-compare-trans a b c p q = lt-compare a c (omega (arith, compare-lt a b p, compare-lt b c q))
+compare_trans : (a b c : ℕ) → compare a b ≡ Ordering.lt → compare b c ≡ Ordering.lt → compare a c ≡ Ordering.lt
+compare_trans a b c p q = lt_compare a c (omega (arith, compare_lt a b p, compare_lt b c q))
 
 -- Octet strings
 
-orElse-eq : (o p : Ordering) → or_else o p ≡ Ordering.eq → (o ≡ Ordering.eq) × (p ≡ Ordering.eq)
-orElse-eq Ordering.lt p e = (e, cc)
-orElse-eq Ordering.eq p e = (refl, e)
-orElse-eq Ordering.gt p e = (e, cc)
+or_else_eq : (o p : Ordering) → or_else o p ≡ Ordering.eq → (o ≡ Ordering.eq) × (p ≡ Ordering.eq)
+or_else_eq Ordering.lt p e = (e, cc)
+or_else_eq Ordering.eq p e = (refl, e)
+or_else_eq Ordering.gt p e = (e, cc)
 
-pub order-eq : (a b : Octets) → order a b ≡ Ordering.eq → a ≡ b
+pub order_eq : (a b : Octets) → order a b ≡ Ordering.eq → a ≡ b
 unfolding order
-order-eq [] [] e = refl
-order-eq [] (b ∷ ys) e = cc
-order-eq (a ∷ xs) [] e = cc
-order-eq (a ∷ xs) (b ∷ ys) e =
-    let h = orElse-eq (compare a b) (order xs ys) e in ap₂ ◌∷◌ (compare-eq a b h.0) (order-eq xs ys h.1)
+order_eq [] [] e = refl
+order_eq [] (b ∷ ys) e = cc
+order_eq (a ∷ xs) [] e = cc
+order_eq (a ∷ xs) (b ∷ ys) e =
+    let h = or_else_eq (compare a b) (order xs ys) e in ap₂ ◌∷◌ (compare_eq a b h.0) (order_eq xs ys h.1)
 
-pub order-refl : (a : Octets) → order a a ≡ Ordering.eq
+pub order_refl : (a : Octets) → order a a ≡ Ordering.eq
 unfolding order
-order-refl [] = refl
-order-refl (a ∷ xs) = rw (compare_refl a) (order-refl xs)
+order_refl [] = refl
+order_refl (a ∷ xs) = rw (compare_refl a) (order_refl xs)
 
-flip-orElse : (o p : Ordering) → or_else (flip o) (flip p) ≡ flip (or_else o p)
-flip-orElse Ordering.lt p = refl
-flip-orElse Ordering.eq p = refl
-flip-orElse Ordering.gt p = refl
+flip_or_else : (o p : Ordering) → or_else (flip o) (flip p) ≡ flip (or_else o p)
+flip_or_else Ordering.lt p = refl
+flip_or_else Ordering.eq p = refl
+flip_or_else Ordering.gt p = refl
 
 pub order_flip : (a b : Octets) → order b a ≡ flip (order a b)
 unfolding order
 order_flip [] [] = refl
 order_flip [] (b ∷ ys) = refl
 order_flip (a ∷ xs) [] = refl
-order_flip (a ∷ xs) (b ∷ ys) = rw (compare-flip a b, order_flip xs ys) (flip-orElse (compare a b) (order xs ys))
+order_flip (a ∷ xs) (b ∷ ys) = rw (compare_flip a b, order_flip xs ys) (flip_or_else (compare a b) (order xs ys))
 
 -- a is below b, which is below c: at the first octets, or in the rest
-trans-orElse : (a b c : ℕ) (p q r : Ordering) → (p ≡ Ordering.lt → q ≡ Ordering.lt → r ≡ Ordering.lt)
+trans_or_else : (a b c : ℕ) (p q r : Ordering) → (p ≡ Ordering.lt → q ≡ Ordering.lt → r ≡ Ordering.lt)
     → or_else (compare a b) p ≡ Ordering.lt → or_else (compare b c) q ≡ Ordering.lt → or_else (compare a c) r ≡ Ordering.lt
-trans-orElse a b c p q r f e₁ e₂ = go (compare a b) (compare b c) refl refl e₁ e₂
+trans_or_else a b c p q r f e₁ e₂ = go (compare a b) (compare b c) refl refl e₁ e₂
   where
     go : (o₁ o₂ : Ordering) → compare a b ≡ o₁ → compare b c ≡ o₂ → or_else o₁ p ≡ Ordering.lt → or_else o₂ q ≡ Ordering.lt
         → or_else (compare a c) r ≡ Ordering.lt
-    go Ordering.lt Ordering.lt h₁ h₂ e f' = rw (compare-trans a b c h₁ h₂)
-    go Ordering.lt Ordering.eq h₁ h₂ e f' = rw (← compare-eq b c h₂, h₁)
+    go Ordering.lt Ordering.lt h₁ h₂ e f' = rw (compare_trans a b c h₁ h₂)
+    go Ordering.lt Ordering.eq h₁ h₂ e f' = rw (← compare_eq b c h₂, h₁)
     go Ordering.lt Ordering.gt h₁ h₂ e f' = cc
-    go Ordering.eq Ordering.lt h₁ h₂ e f' = rw (compare-eq a b h₁, h₂)
-    go Ordering.eq Ordering.eq h₁ h₂ e f' = rw (compare-eq a b h₁, h₂) (f e f')
+    go Ordering.eq Ordering.lt h₁ h₂ e f' = rw (compare_eq a b h₁, h₂)
+    go Ordering.eq Ordering.eq h₁ h₂ e f' = rw (compare_eq a b h₁, h₂) (f e f')
     go Ordering.eq Ordering.gt h₁ h₂ e f' = cc
     go Ordering.gt Ordering.lt h₁ h₂ e f' = cc
     go Ordering.gt Ordering.eq h₁ h₂ e f' = cc
@@ -104,7 +104,7 @@ order_trans [] (b ∷ ys) [] p q = cc
 order_trans [] (b ∷ ys) (c ∷ zs) p q = refl
 order_trans (a ∷ xs) [] c p q = cc
 order_trans (a ∷ xs) (b ∷ ys) [] p q = cc
-order_trans (a ∷ xs) (b ∷ ys) (c ∷ zs) p q = trans-orElse a b c (order xs ys) (order ys zs) (order xs zs) (order_trans xs ys zs) p q
+order_trans (a ∷ xs) (b ∷ ys) (c ∷ zs) p q = trans_or_else a b c (order xs ys) (order ys zs) (order xs zs) (order_trans xs ys zs) p q
 
 -- The test of equality
 
@@ -115,13 +115,13 @@ is_eq Ordering.gt e = cc
 
 pub same_true : (a b : Octets) → same a b ≡ true → a ≡ b
 unfolding same
-same_true a b e = order-eq a b (is_eq (order a b) e)
+same_true a b e = order_eq a b (is_eq (order a b) e)
 
 pub same_refl : (a : Octets) → same a a ≡ true
 unfolding same
-same_refl a = rw (order-refl a)
+same_refl a = rw (order_refl a)
 
-pub is-less-true : (o : Ordering) → is-less o ≡ true → o ≡ Ordering.lt
-is-less-true Ordering.lt e = refl
-is-less-true Ordering.eq e = cc
-is-less-true Ordering.gt e = cc
+pub is_less_true : (o : Ordering) → is_less o ≡ true → o ≡ Ordering.lt
+is_less_true Ordering.lt e = refl
+is_less_true Ordering.eq e = cc
+is_less_true Ordering.gt e = cc

@@ -8,9 +8,9 @@ abbrev pub Octets : Type 0
 Octets = List ℕ
 
 -- an octet is 8 bits: each of these numbers is below 256
-abbrev pub Are-octets : Octets → Type 0
-Are-octets [] = Unit {0}
-Are-octets (a ∷ s) = (a < 256) × Are-octets s
+abbrev pub AreOctets : Octets → Type 0
+AreOctets [] = Unit {0}
+AreOctets (a ∷ s) = (a < 256) × AreOctets s
 
 -- the first difference decides
 abbrev pub or_else : Ordering → Ordering → Ordering
@@ -30,7 +30,7 @@ unfoldable pub same : Octets → Octets → Bool
 same a b = compare_is_eq (order a b)
 
 -- the first is less than the second
-abbrev pub is-less : Ordering → Bool
-is-less Ordering.lt = true
-is-less Ordering.eq = false
-is-less Ordering.gt = false
+abbrev pub is_less : Ordering → Bool
+is_less Ordering.lt = true
+is_less Ordering.eq = false
+is_less Ordering.gt = false

@@ -1,6 +1,6 @@
 // Octet strings: their order, and writing one into a lent buffer at a running offset.
 ghost use Rattle.std.specs.Prelude.{◌≡◌, ◌+◌, ◌≤◌, length};
-ghost use Rattle.octets.specs.Order.{order, is-less};
+ghost use Rattle.octets.specs.Order.{order, is_less};
 ghost use Rattle.octets.specs.Order as specs;
 ghost use Rattle.octets.specs.Compared.{order_of};
 ghost use Rattle.octets.specs.Put.{Wrote};
@@ -50,7 +50,7 @@ pub fn same(a: &[u8], b: &[u8]) -> bool
 
 // Whether a stands below b.
 pub fn below(a: &[u8], b: &[u8]) -> bool
-    ensures { result ≡ is-less (order a.now b.now) }
+    ensures { result ≡ is_less (order a.now b.now) }
 {
     let o = compare(a, b);
     match o {

@@ -1,6 +1,6 @@
 -- 02 (vi): the profiles, "chosen by a number from the caller: 0 for full, 1 for drill", and the label that a record has in each.
 use Rattle.std.specs.Prelude.{Bool, cond, ◌||◌, ◌++◌, ℕ, eqb, take, replicate}
-use Rattle.answer.specs.Refusals.{unknown-profile}
+use Rattle.answer.specs.Refusals.{unknown_profile}
 use Rattle.octets.specs.Order.{Octets}
 use Rattle.sha256.specs.Fips180.{sha256}
 
@@ -27,5 +27,5 @@ unfoldable pub label : ℕ → Octets → Octets
 label profile r = kept profile (sha256 r)
 
 -- 02 (vi): "17, an unknown profile, before all others"; else what is answered. A refusal is a number and a place, and 17 names none.
-abbrev pub in-profile : {A : Type 0} → (ℕ → ℕ → A) → ℕ → A → A
-in-profile Refused profile answered = cond (known profile) answered (Refused unknown-profile 0)
+abbrev pub in_profile : {A : Type 0} → (ℕ → ℕ → A) → ℕ → A → A
+in_profile Refused profile answered = cond (known profile) answered (Refused unknown_profile 0)

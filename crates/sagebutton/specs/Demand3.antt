@@ -18,13 +18,13 @@ use Rattle.codes.specs.Code.{key_of}
 use Rattle.tree.specs.Edition.{width}
 use Rattle.attestation.specs.Verify.{Verified}
 use Rattle.extractor.specs.Extract.{Extracted}
-use Rattle.examples.specs.F.{code-1-1, code-3-4}
+use Rattle.examples.specs.F.{code_1_1, code_3_4}
 use Rattle.examples.specs.Values.{number}
 
 -- Anyone can check that two records have the same label by `hash`: it accepts each, and of the 32 octets that it leaves of each, what
 -- the profile keeps is equal. The full profile keeps them all.
-abbrev pub Hash-alike : ℕ → Octets → Octets → Type 0
-Hash-alike profile r s = (h k : Octets) → length h ≡ 32 → length k ≡ 32
+abbrev pub HashAlike : ℕ → Octets → Octets → Type 0
+HashAlike profile r s = (h k : Octets) → length h ≡ 32 → length k ≡ 32
     → (t u : Answer) (h' k' : Octets) → Hashed r h t h' → Hashed s k u k' → (t ≡ Done 85) × (u ≡ Done 85) × (kept profile h' ≡ kept profile k')
 
 -- What `extract` answered in the profile for the key x and the attestations a and b, r, and left in its two buffers. The records
@@ -32,30 +32,30 @@ Hash-alike profile r s = (h k : Octets) → length h ≡ 32 → length k ≡ 32
 pub record Collides (profile : ℕ) (x a b : Octets) (r : Answer) (out₁' out₂' : Octets) : Type 0 where
   pub passed : ℕ
   pub answers : r ≡ Done passed
-  pub first-rebuilt : Rebuilt (label profile) x (shown width a) passed out₁'
-  pub second-rebuilt : Rebuilt (label profile) x (shown width b) passed out₂'
+  pub first_rebuilt : Rebuilt (label profile) x (shown width a) passed out₁'
+  pub second_rebuilt : Rebuilt (label profile) x (shown width b) passed out₂'
   pub differ : out₁' ≡ out₂' → ⊥
-  pub same-label : label profile out₁' ≡ label profile out₂'
-  pub hash-alike : Hash-alike profile out₁' out₂'
+  pub same_label : label profile out₁' ≡ label profile out₂'
+  pub hash_alike : HashAlike profile out₁' out₂'
 
 -- the verdicts on a and b contradict each other
 abbrev pub Contradict : ℕ → Octets → Octets → Octets → Octets → Type 0
 Contradict profile x d a b = (Verified profile x d a Present × Verified profile x d b Absent) ⊎ (Verified profile x d a Absent × Verified profile x d b Present)
 
 -- Two buffers of 85 octets are lent; nothing is asked of the digest d, nor of the profile's number.
-abbrev pub Demand-3 : Type 0
-Demand-3 =
+abbrev pub Demand3 : Type 0
+Demand3 =
     (profile : ℕ) (x d a b : Octets) → Contradict profile x d a b
     → (out₁ out₂ : Octets) → length out₁ ≡ 85 → length out₂ ≡ 85
     → (r : Answer) (out₁' out₂' : Octets) → Extracted profile x d a b out₁ out₂ r out₁' out₂' → Collides profile x a b r out₁' out₂'
 
 -- the number n as a key is judged both ways in the drill under the digest of the list of k alone: absent by the attestation that is
 -- issued there, present by the one that is issued under the list of the number alone
-abbrev pub Contradicts-in-drill : Octets → ℕ → Type 0
-Contradicts-in-drill k n =
+abbrev pub ContradictsInDrill : Octets → ℕ → Type 0
+ContradictsInDrill k n =
     Contradict drill (number n) (digest (label drill) (k ∷ [])) (attestation (label drill) (k ∷ []) (number n)) (attestation (label drill) (number n ∷ []) (number n))
 
 -- There are such contradictions, so demand 3 does not speak of nothing: that of `docs/DRILL.md`, and another.
-pub record Drill-contradicts : Type 0 where
-  pub of-3-4 : Contradicts-in-drill (key_of code-3-4) 16401
-  pub of-1-1 : Contradicts-in-drill (key_of code-1-1) 78159
+pub record DrillContradicts : Type 0 where
+  pub of_3_4 : ContradictsInDrill (key_of code_3_4) 16401
+  pub of_1_1 : ContradictsInDrill (key_of code_1_1) 78159

@@ -19,7 +19,7 @@ Lie profile n keys x d a =
     (Verified profile x d a Present × (listed x (entries width n keys) ≡ false)) ⊎ (Verified profile x d a Absent × (listed x (entries width n keys) ≡ true))
 
 -- of a list that `digest` accepted, with its n keys and what was left, d': a lie contradicts the attestation that we issue for x
-abbrev pub Lies-are-contradicted : Type 0
-Lies-are-contradicted =
+abbrev pub LiesAreContradicted : Type 0
+LiesAreContradicted =
     (profile : ℕ) (keys d : Octets) (n : ℕ) (d' : Octets) → Digested profile keys d (Done n) d'
     → (x a : Octets) → Lie profile n keys x d' a → Contradict profile x d' a (attestation (label profile) (entries width n keys) x)

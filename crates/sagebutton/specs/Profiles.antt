@@ -13,7 +13,7 @@ use Rattle.attestation.specs.Verify.{Verified}
 use Rattle.extractor.specs.Extract.{Extracted}
 
 -- "17, an unknown profile, before all others", whatever the other arguments are; and the buffers stay
-pub record Refused-with-17 (profile : ℕ) : Type 0 where
+pub record RefusedWith17 (profile : ℕ) : Type 0 where
   pub digest : (keys out : Octets) (r : Answer) (out' : Octets) → Digested profile keys out r out' → (r ≡ Refused 17 0) × (out' ≡ out)
   pub attest : (x keys out : Octets) (r : Answer) (out' : Octets) → Attested profile x keys out r out' → (r ≡ Refused 17 0) × (out' ≡ out)
   pub verify : (x d a : Octets) (v : Verdict) → Verified profile x d a v → v ≡ verdict.Refused 17 0
@@ -22,9 +22,9 @@ pub record Refused-with-17 (profile : ℕ) : Type 0 where
 
 -- "0 for full, 1 for drill", and no other; in the full one a label is document 01's
 pub record Profiles : Type 0 where
-  pub full-known : known 0 ≡ true
-  pub drill-known : known 1 ≡ true
+  pub full_known : known 0 ≡ true
+  pub drill_known : known 1 ≡ true
   pub no_other : (profile : ℕ) → known profile ≡ true → (profile ≡ 0) ⊎ (profile ≡ 1)
-  pub full-label : (r : Octets) → label 0 r ≡ sha256 r
-  pub drill-label : (r : Octets) → label 1 r ≡ take 2 (sha256 r) ++ replicate 30 0
-  pub others-refused : (profile : ℕ) → known profile ≡ false → Refused-with-17 profile
+  pub full_label : (r : Octets) → label 0 r ≡ sha256 r
+  pub drill_label : (r : Octets) → label 1 r ≡ take 2 (sha256 r) ++ replicate 30 0
+  pub others_refused : (profile : ℕ) → known profile ≡ false → RefusedWith17 profile

@@ -3,12 +3,12 @@
 // full labels and 1 for the drill's; a digest does not carry it, so one number is for the caller to keep throughout.
 ghost use Rattle.sha256.specs.Hash.{Hashed};
 ghost use Rattle.codes.specs.Read.{Read};
-ghost use Rattle.answer.specs.Answer.{packed, verdict-packed};
+ghost use Rattle.answer.specs.Answer.{packed, verdict_packed};
 ghost use Rattle.tree.specs.Digest.{Digested};
 ghost use Rattle.attestation.specs.Attest.{Attested};
 ghost use Rattle.attestation.specs.Verify.{Verified};
 ghost use Rattle.extractor.specs.Extract.{Extracted};
-ghost use Rattle.contradiction.specs.Drill.{Drilled, drill-packed};
+ghost use Rattle.contradiction.specs.Drill.{Drilled, drill_packed};
 ghost use Rattle.sagebutton.specs.Packed.{Packed};
 ghost use Rattle.sagebutton.specs.Proved.{Proved};
 
@@ -105,7 +105,7 @@ pub extern "C" fn sagebutton_attest(profile: u32, key: &[u8], keys: &[u8], out: 
 // Its contract also asks for `Proved`, what the functions say together: nothing else would miss those proofs.
 #[unsafe(no_mangle)]
 pub extern "C" fn sagebutton_verify(profile: u32, key: &[u8], digest: &[u8], att: &[u8]) -> u64
-    ensures { (Packed verdict-packed (Verified profile key.now digest.now att.now) result) × Proved }
+    ensures { (Packed verdict_packed (Verified profile key.now digest.now att.now) result) × Proved }
 {
     answer::pack_verdict(verify(profile, key, digest, att))
 }
@@ -127,7 +127,7 @@ pub extern "C" fn sagebutton_extract(
 
 #[unsafe(no_mangle)]
 pub extern "C" fn sagebutton_drill(text: &[u8], bound: u32, out1: &mut [u8], out2: &mut [u8]) -> u64
-    ensures { Packed drill-packed (λ a. Drilled text.now bound out1.old out2.old a out1.new out2.new) result }
+    ensures { Packed drill_packed (λ a. Drilled text.now bound out1.old out2.old a out1.new out2.new) result }
 {
     contradiction::pack_drill(drill(text, bound, out1, out2))
 }

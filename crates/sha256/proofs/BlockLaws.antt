@@ -11,9 +11,9 @@ unfolding blocks block
 block_more H p i k l e f = rw add-one (cc)
 
 -- a block within the first part
-block-front : (p q : Octets) (i : ℕ) → 64 * i + 64 ≤ length p → block (p ++ q) i ≡ block p i
+block_front : (p q : Octets) (i : ℕ) → 64 * i + 64 ≤ length p → block (p ++ q) i ≡ block p i
 unfolding block
-block-front p q i h =
+block_front p q i h =
     let a : 64 * i ≤ length p = omega arith in
     let b : 64 ≤ length (drop (64 * i) p) = simp length-drop (omega arith) in
     rw (drop-append-le (64 * i) p q a, take-append-le 64 (drop (64 * i) p) q b)
@@ -25,32 +25,32 @@ block_back p q n i h =
     let a : 64 * (n + i) ≡ length p + 64 * i = omega arith in
     rw (a, drop-append-add p q (64 * i))
 
-pub blocks-front : (H : State) (p q : Octets) (n : ℕ) → 64 * n ≤ length p → blocks H (p ++ q) n ≡ blocks H p n
+pub blocks_front : (H : State) (p q : Octets) (n : ℕ) → 64 * n ≤ length p → blocks H (p ++ q) n ≡ blocks H p n
 unfolding blocks
-blocks-front H p q zero h = refl
-blocks-front H p q (suc n) h = ap₂ compress (blocks-front H p q n (omega arith)) (block-front p q n (omega arith))
+blocks_front H p q zero h = refl
+blocks_front H p q (suc n) h = ap₂ compress (blocks_front H p q n (omega arith)) (block_front p q n (omega arith))
 
-blocks-back : (H : State) (p q : Octets) (n j : ℕ) → length p ≡ 64 * n → blocks H (p ++ q) (n + j) ≡ blocks (blocks H p n) q j
+blocks_back : (H : State) (p q : Octets) (n j : ℕ) → length p ≡ 64 * n → blocks H (p ++ q) (n + j) ≡ blocks (blocks H p n) q j
 unfolding blocks
-blocks-back H p q n zero h = let a : n + zero ≡ n = omega arith in rw a (blocks-front H p q n (omega arith))
-blocks-back H p q n (suc j) h =
+blocks_back H p q n zero h = let a : n + zero ≡ n = omega arith in rw a (blocks_front H p q n (omega arith))
+blocks_back H p q n (suc j) h =
     let a : n + suc j ≡ suc (n + j) = omega arith in
-    rw a (ap₂ compress (blocks-back H p q n j h) (block_back p q n j h))
+    rw a (ap₂ compress (blocks_back H p q n j h) (block_back p q n j h))
 
 -- only the octets of the blocks count
-pub blocks-take : (H : State) (p : Octets) (n : ℕ) → 64 * n ≤ length p → blocks H p n ≡ blocks H (take (64 * n) p) n
-blocks-take H p n h =
+pub blocks_take : (H : State) (p : Octets) (n : ℕ) → 64 * n ≤ length p → blocks H p n ≡ blocks H (take (64 * n) p) n
+blocks_take H p n h =
     let l : 64 * n ≤ length (take (64 * n) p) = omega (arith, length-take-le (64 * n) p h) in
     let a : blocks H (take (64 * n) p ++ drop (64 * n) p) n ≡ blocks H (take (64 * n) p) n =
-    blocks-front H (take (64 * n) p) (drop (64 * n) p) n l in
+    blocks_front H (take (64 * n) p) (drop (64 * n) p) n l in
     rw (take-append-drop (64 * n) p) at a
 
 -- the whole blocks of m, then n blocks that begin with the rest of m, of k octets, and its padding
-pub two-parts : (m e : Octets) (f k n : ℕ) {h g : State} → 64 * f + k ≡ length m → 64 * n ≤ length e
+pub two_parts : (m e : Octets) (f k n : ℕ) {h g : State} → 64 * f + k ≡ length m → 64 * n ≤ length e
     → take (64 * n) e ≡ take k (drop (64 * f) m) ++ padding (length m)
     → h ≡ blocks H0 m f → g ≡ blocks h e n → digest g ≡ sha256 m
 unfolding sha256 padded
-two-parts m e f k n {h} {g} hk hn t eh eg =
+two_parts m e f k n {h} {g} hk hn t eh eg =
     let p = take (64 * f) m in
     let q = take (64 * n) e in
     let hf : 64 * f ≤ length m = omega arith in
@@ -60,6 +60,6 @@ two-parts m e f k n {h} {g} hk hn t eh eg =
     let s : m ++ padding (length m) ≡ p ++ q =
     rw (t, r, ← append_assoc p (drop (64 * f) m) (padding (length m)), take-append-drop (64 * f) m) in
     let c : length (p ++ q) / 64 ≡ f + n = simp length-append (omega arith) in
-    let x : h ≡ blocks H0 p f = eh ∙ blocks-take H0 m f hf in
-    let y : g ≡ blocks (blocks H0 p f) q n = eg ∙ blocks-take h e n hn ∙ rw x in
-    rw (s, c) (ap digest (y ∙ sym (blocks-back H0 p q f n lp)))
+    let x : h ≡ blocks H0 p f = eh ∙ blocks_take H0 m f hf in
+    let y : g ≡ blocks (blocks H0 p f) q n = eg ∙ blocks_take h e n hn ∙ rw x in
+    rw (s, c) (ap digest (y ∙ sym (blocks_back H0 p q f n lp)))

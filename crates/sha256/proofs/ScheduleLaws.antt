@@ -5,51 +5,51 @@ use lib.Seq.{get_or_at}
 use Rattle.octets.specs.Order.{Octets}
 use Rattle.sha256.specs.Fips180.{M, W, next, schedule}
 
-pub W-block : (b : Octets) (w : List ℕ) (t : ℕ) → t < 16 → W b w t ≡ M b t
+pub W_block : (b : Octets) (w : List ℕ) (t : ℕ) → t < 16 → W b w t ≡ M b t
 unfolding W
-W-block b w t h = rw (lt-ltb t 16 h)
+W_block b w t h = rw (lt-ltb t 16 h)
 
-pub W-next : (b : Octets) (w : List ℕ) (t : ℕ) → 16 ≤ t → W b w t ≡ next w t
+pub W_next : (b : Octets) (w : List ℕ) (t : ℕ) → 16 ≤ t → W b w t ≡ next w t
 unfolding W
-W-next b w t h = rw (le-ltb t 16 h)
+W_next b w t h = rw (le-ltb t 16 h)
 
 -- what the next word is made of stands among the first t
-next-take : (w : List ℕ) (t : ℕ) → 16 ≤ t → next (take t w) t ≡ next w t
+next_take : (w : List ℕ) (t : ℕ) → 16 ≤ t → next (take t w) t ≡ next w t
 unfolding next
-next-take w t h =
+next_take w t h =
     rw (get_or-take t w (t - 2) 0 (omega arith), get_or-take t w (t - 7) 0 (omega arith), get_or-take t w (t - 15) 0 (omega arith), get_or-take t w (t - 16) 0 (omega arith))
 
-pub schedule-size : (b : Octets) (n : ℕ) → length (schedule b n) ≡ n
+pub schedule_size : (b : Octets) (n : ℕ) → length (schedule b n) ≡ n
 unfolding schedule
-schedule-size b zero = refl
-schedule-size b (suc n) = simp length-append (omega (arith, schedule-size b n))
+schedule_size b zero = refl
+schedule_size b (suc n) = simp length-append (omega (arith, schedule_size b n))
 
 -- a word of a schedule of any length is W of those before it
-schedule-at : (b : Octets) (n t : ℕ) → t < n → get_or (schedule b n) t 0 ≡ W b (schedule b t) t
+schedule_at : (b : Octets) (n t : ℕ) → t < n → get_or (schedule b n) t 0 ≡ W b (schedule b t) t
 unfolding schedule
-schedule-at b zero t h = absurd (not-suc-le-zero h)
-schedule-at b (suc n) t h = go (ltb t n) refl (schedule-at b n t)
+schedule_at b zero t h = absurd (not-suc-le-zero h)
+schedule_at b (suc n) t h = go (ltb t n) refl (schedule_at b n t)
   where
     go : (x : Bool) → ltb t n ≡ x → (t < n → get_or (schedule b n) t 0 ≡ W b (schedule b t) t)
         → get_or (schedule b n ++ (W b (schedule b n) n ∷ [])) t 0 ≡ W b (schedule b t) t
     go true e f =
         let l : t < n = ltb-true t n e in
-        get_or-append (schedule b n) (W b (schedule b n) n ∷ []) 0 t (omega (arith, schedule-size b n)) ∙ f l
+        get_or-append (schedule b n) (W b (schedule b n) n ∷ []) 0 t (omega (arith, schedule_size b n)) ∙ f l
     go false e f =
         let k : t ≡ n = omega (arith, ltb-false t n e) in
-        rw k (get_or_at (schedule b n) (W b (schedule b n) n) [] 0 n (schedule-size b n))
+        rw k (get_or_at (schedule b n) (W b (schedule b n) n) [] 0 n (schedule_size b n))
 
-schedule-same : (b : Octets) (m n i : ℕ) → i < m → i < n → get_or (schedule b m) i 0 ≡ get_or (schedule b n) i 0
-schedule-same b m n i h l = schedule-at b m i h ∙ sym (schedule-at b n i l)
+schedule_same : (b : Octets) (m n i : ℕ) → i < m → i < n → get_or (schedule b m) i 0 ≡ get_or (schedule b n) i 0
+schedule_same b m n i h l = schedule_at b m i h ∙ sym (schedule_at b n i l)
 
-pub schedule-block : (b : Octets) (n t : ℕ) → t < n → t < 16 → get_or (schedule b n) t 0 ≡ M b t
-schedule-block b n t h l = schedule-at b n t h ∙ W-block b (schedule b t) t l
+pub schedule_block : (b : Octets) (n t : ℕ) → t < n → t < 16 → get_or (schedule b n) t 0 ≡ M b t
+schedule_block b n t h l = schedule_at b n t h ∙ W_block b (schedule b t) t l
 
-pub schedule-next : (b : Octets) (n t : ℕ) → 16 ≤ t → t < n → get_or (schedule b n) t 0 ≡ next (schedule b n) t
+pub schedule_next : (b : Octets) (n t : ℕ) → 16 ≤ t → t < n → get_or (schedule b n) t 0 ≡ next (schedule b n) t
 unfolding next
-schedule-next b n t l h =
-    let k : (i : ℕ) → i < t → get_or (schedule b t) i 0 ≡ get_or (schedule b n) i 0 = λ i j. schedule-same b t n i j (omega arith) in
-    schedule-at b n t h ∙ W-next b (schedule b t) t l
+schedule_next b n t l h =
+    let k : (i : ℕ) → i < t → get_or (schedule b t) i 0 ≡ get_or (schedule b n) i 0 = λ i j. schedule_same b t n i j (omega arith) in
+    schedule_at b n t h ∙ W_next b (schedule b t) t l
     ∙ rw (k (t - 2) (omega arith), k (t - 7) (omega arith), k (t - 15) (omega arith), k (t - 16) (omega arith))
 
 module _ (b : Octets) (t u : ℕ) (e : u ≡ suc t) (w : List ℕ) (h : t < length w) (p : take t w ≡ schedule b t) where
@@ -57,8 +57,8 @@ module _ (b : Octets) (t u : ℕ) (e : u ≡ suc t) (w : List ℕ) (h : t < leng
   unfolding schedule
   word_more v q = rw (e, take-suc-set w t v h, p, q)
 
-  pub block-word-more : {v : ℕ} → t < 16 → v ≡ M b t → take u (set w t v) ≡ schedule b u
-  block-word-more {v} l q = word_more v (rw (W-block b (schedule b t) t l) q)
+  pub block_word_more : {v : ℕ} → t < 16 → v ≡ M b t → take u (set w t v) ≡ schedule b u
+  block_word_more {v} l q = word_more v (rw (W_block b (schedule b t) t l) q)
 
-  pub next-word-more : {v : ℕ} → 16 ≤ t → v ≡ next w t → take u (set w t v) ≡ schedule b u
-  next-word-more {v} l q = word_more v (rw (W-next b (schedule b t) t l, ← p, next-take w t l) q)
+  pub next_word_more : {v : ℕ} → 16 ≤ t → v ≡ next w t → take u (set w t v) ≡ schedule b u
+  next_word_more {v} l q = word_more v (rw (W_next b (schedule b t) t l, ← p, next_take w t l) q)

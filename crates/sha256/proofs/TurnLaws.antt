@@ -8,7 +8,7 @@ module _ (st : State) (k w : List ℕ) (e : k ≡ K) where
   unfolding turns
   turn_more t u h p q = rw h (cc)
 
-  pub eight-turns : {s₀ s₁ s₂ s₃ s₄ s₅ s₆ s₇ s₈ : State} (t : ℕ) → s₀ ≡ turns st w t
+  pub eight_turns : {s₀ s₁ s₂ s₃ s₄ s₅ s₆ s₇ s₈ : State} (t : ℕ) → s₀ ≡ turns st w t
       → s₁ ≡ turn s₀ (get_or k t 0) (get_or w t 0)
       → s₂ ≡ turn s₁ (get_or k (t + 1) 0) (get_or w (t + 1) 0)
       → s₃ ≡ turn s₂ (get_or k (t + 2) 0) (get_or w (t + 2) 0)
@@ -18,7 +18,7 @@ module _ (st : State) (k w : List ℕ) (e : k ≡ K) where
       → s₇ ≡ turn s₆ (get_or k (t + 6) 0) (get_or w (t + 6) 0)
       → s₈ ≡ turn s₇ (get_or k (t + 7) 0) (get_or w (t + 7) 0)
       → s₈ ≡ turns st w (t + 8)
-  eight-turns t p₀ e₁ e₂ e₃ e₄ e₅ e₆ e₇ e₈ =
+  eight_turns t p₀ e₁ e₂ e₃ e₄ e₅ e₆ e₇ e₈ =
       let p₁ = turn_more t (t + 1) (omega arith) p₀ e₁ in
       let p₂ = turn_more (t + 1) (t + 2) (omega arith) p₁ e₂ in
       let p₃ = turn_more (t + 2) (t + 3) (omega arith) p₂ e₃ in

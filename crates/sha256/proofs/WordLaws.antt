@@ -28,9 +28,9 @@ put_four d at a b c e h =
     rw (e1, e2, e3) q
 
 -- a number of 64 bits as two words
-pub octets-eight : (x : ℕ) → octets 4 (x / 2 ^ 32) ++ octets 4 (x % 2 ^ 32) ≡ octets 8 x
+pub octets_eight : (x : ℕ) → octets 4 (x / 2 ^ 32) ++ octets 4 (x % 2 ^ 32) ≡ octets 8 x
 unfolding octets
-octets-eight x =
+octets_eight x =
     let e7 : x / 4294967296 / 16777216 % 256 ≡ x / 72057594037927936 % 256 = omega arith in
     let e6 : x / 4294967296 / 65536 % 256 ≡ x / 281474976710656 % 256 = omega arith in
     let e5 : x / 4294967296 / 256 % 256 ≡ x / 1099511627776 % 256 = omega arith in

@@ -5,7 +5,7 @@ use Rattle.sha256.specs.Fips180.{octets, sha256}
 
 pub record Examples : Type 0 where
   -- NIST's test vectors, SHA256ShortMsg, Len = 0: no octets
-  pub no-octets : sha256 [] ≡ octets 32 0xe3b0c442_98fc1c14_9afbf4c8_996fb924_27ae41e4_649b934c_a495991b_7852b855
+  pub no_octets : sha256 [] ≡ octets 32 0xe3b0c442_98fc1c14_9afbf4c8_996fb924_27ae41e4_649b934c_a495991b_7852b855
   -- NIST's "Examples with Intermediate Values" for FIPS 180-4, SHA-256, one block: the octets of "abc"
   pub abc : sha256 (octets 3 0x616263) ≡ octets 32 0xba7816bf_8f01cfea_414140de_5dae2223_b00361a3_96177a9c_b410ff61_f20015ad
   -- the same, two blocks: the 56 octets of "abcdbcdecdefdefgefghfghighijhijkijkljklmklmnlmnomnopnopq"

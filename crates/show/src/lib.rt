@@ -2,13 +2,13 @@
 ghost use Rattle.std.specs.Prelude.{◌≡◌, ◌+◌, ◌*◌, ◌≤◌, ◌<◌, length};
 ghost use Rattle.octets.specs.Put.{Wrote};
 ghost use Rattle.show.specs.Decimal.{decimal};
-ghost use Rattle.show.specs.Hex.{hex-digit, hex};
-ghost use Rattle.show.specs.Refusal.{refusal-line};
+ghost use Rattle.show.specs.Hex.{hex_digit, hex};
+ghost use Rattle.show.specs.Refusal.{refusal_line};
 
 // The digit of a number below 16, in lower case.
 fn digit_of(n: u8) -> u8
     requires { n < 16 }
-    ensures { result ≡ hex-digit n }
+    ensures { result ≡ hex_digit n }
 {
     if n < 10 { 48 + n } else { 87 + n }
 }
@@ -44,7 +44,7 @@ pub fn put_hex(out: &mut [u8], at: usize, src: &[u8]) -> usize
 // Writes the line of a refusal at the front of out, and returns its length.
 pub fn put_refusal(out: &mut [u8], number: u16, place: u32) -> usize
     requires { 25 ≤ length out.old }
-    ensures { Wrote out.old 0 (refusal-line number place) out.new result }
+    ensures { Wrote out.old 0 (refusal_line number place) out.new result }
 {
     let a = octets::put(out, 0, b"refused ");
     let b = put_decimal(out, a, number as u32);

@@ -9,56 +9,56 @@ use lib.ListN.{length}
 use Rattle.answer.specs.declared.Answer.{Answer}
 use Rattle.answer.specs.declared.Answer.TheVariants.{Done, Refused}
 use Rattle.answer.specs.Answer.{written}
-use Rattle.answer.specs.Refusals.{size, unknown-profile}
+use Rattle.answer.specs.Refusals.{size, unknown_profile}
 use Rattle.octets.specs.Order.{Octets}
 use Rattle.octets.specs.Put.{Wrote}
 use Rattle.octets.proofs.PutLaws.{put_front}
-use Rattle.profile.specs.Profile.{known, label, in-profile}
-use Rattle.profile.proofs.ProfileLaws.{in-known, in-unknown}
+use Rattle.profile.specs.Profile.{known, label, in_profile}
+use Rattle.profile.proofs.ProfileLaws.{in_known, in_unknown}
 use Rattle.attester.specs.Admission.{Admission, admitted, refused, admit}
 use Rattle.attester.specs.Label.{digest}
-use Rattle.attester.proofs.AdmissionLaws.{admit-admitted}
-use Rattle.tree.specs.Admitted.{answer-of, entries-of}
-use Rattle.tree.specs.Digest.{digest-answer, digest-octets, Digested}
+use Rattle.attester.proofs.AdmissionLaws.{admit_admitted}
+use Rattle.tree.specs.Admitted.{answer_of, entries_of}
+use Rattle.tree.specs.Digest.{digest_answer, digest_octets, Digested}
 use Rattle.tree.specs.Edition.{width, most}
 use Rattle.tree.specs.Labels.{label_of}
 
-pub digested-unknown : (profile : ℕ) (keys out : Octets) → known profile ≡ false → Digested profile keys out (Refused unknown-profile 0) out
+pub digested_unknown : (profile : ℕ) (keys out : Octets) → known profile ≡ false → Digested profile keys out (Refused unknown_profile 0) out
 unfolding written
-digested-unknown profile keys out k = record { answered = sym (in-unknown Refused profile (digest-answer width most keys (length out)) k); left = refl }
+digested_unknown profile keys out k = record { answered = sym (in_unknown Refused profile (digest_answer width most keys (length out)) k); left = refl }
 
 module _ (profile : ℕ) (k : known profile ≡ true) (keys out : Octets) where
   -- in a known profile the answer is document 01's
-  told : {r : Answer} → r ≡ digest-answer width most keys (length out) → r ≡ in-profile Refused profile (digest-answer width most keys (length out))
-  told e = e ∙ sym (in-known Refused profile (digest-answer width most keys (length out)) k)
+  told : {r : Answer} → r ≡ digest_answer width most keys (length out) → r ≡ in_profile Refused profile (digest_answer width most keys (length out))
+  told e = e ∙ sym (in_known Refused profile (digest_answer width most keys (length out)) k)
 
-  pub digested-size : (length out ≡ 32 → ⊥) → Digested profile keys out (Refused size 0) out
-  unfolding digest-answer written
-  digested-size h = record { answered = told (rw (ne_eqb (length out) 32 h)); left = refl }
+  pub digested_size : (length out ≡ 32 → ⊥) → Digested profile keys out (Refused size 0) out
+  unfolding digest_answer written
+  digested_size h = record { answered = told (rw (ne_eqb (length out) 32 h)); left = refl }
 
-  module _ (r : Answer) (room : length out ≡ 32) (is : r ≡ answer-of (admit width most keys)) where
-    answered : r ≡ in-profile Refused profile (digest-answer width most keys (length out))
-    unfolding digest-answer
+  module _ (r : Answer) (room : length out ≡ 32) (is : r ≡ answer_of (admit width most keys)) where
+    answered : r ≡ in_profile Refused profile (digest_answer width most keys (length out))
+    unfolding digest_answer
     answered = told (rw (eq-eqb (length out) 32 room) is)
 
-    pub digested-refused : {m p : ℕ} → r ≡ Refused m p → Digested profile keys out r out
+    pub digested_refused : {m p : ℕ} → r ≡ Refused m p → Digested profile keys out r out
     unfolding written
-    digested-refused e = record { answered = answered; left = rw e }
+    digested_refused e = record { answered = answered; left = rw e }
 
     -- the label of the octets is the digest of the entries that were admitted
-    label-admitted : (n : ℕ) → r ≡ Done n → label_of (label profile) width keys ≡ digest-octets (label profile) width most keys
-    unfolding label_of digest-octets
-    label-admitted n e = go (admit width most keys) refl (sym is ∙ e)
+    label_admitted : (n : ℕ) → r ≡ Done n → label_of (label profile) width keys ≡ digest_octets (label profile) width most keys
+    unfolding label_of digest_octets
+    label_admitted n e = go (admit width most keys) refl (sym is ∙ e)
       where
-        go : (a : Admission) → admit width most keys ≡ a → answer-of a ≡ Done n → label_of (label profile) width keys ≡ digest (label profile) (entries-of a)
-        go (admitted es) h d = ap (digest (label profile)) (sym (admit-admitted width most keys es h).parts)
+        go : (a : Admission) → admit width most keys ≡ a → answer_of a ≡ Done n → label_of (label profile) width keys ≡ digest (label profile) (entries_of a)
+        go (admitted es) h d = ap (digest (label profile)) (sym (admit_admitted width most keys es h).parts)
         go (refused m p) h d = let z : ◌≡◌ {A = ℕ} 0 1 = cc in absurd (omega arith)
 
-    pub digested-done : {n : ℕ} {d out' : Octets} {end : ℕ} → r ≡ Done n → d ≡ label_of (label profile) width keys → Wrote out 0 d out' end
+    pub digested_done : {n : ℕ} {d out' : Octets} {end : ℕ} → r ≡ Done n → d ≡ label_of (label profile) width keys → Wrote out 0 d out' end
         → Digested profile keys out (Done n) out'
     unfolding written
-    digested-done {n} {d} e l w =
+    digested_done {n} {d} e l w =
         record {
           answered = sym e ∙ answered;
-          left = w.left ∙ put_front out d ∙ rw (l ∙ label-admitted n e);
+          left = w.left ∙ put_front out d ∙ rw (l ∙ label_admitted n e);
         }

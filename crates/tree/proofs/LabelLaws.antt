@@ -11,70 +11,70 @@ use lib.Seq.{take_all}
 use borrow.Author.Tests.{lt-ltb}
 use Rattle.octets.specs.Order.{Octets}
 use Rattle.octets.specs.Put.{Wrote}
-use Rattle.octets.proofs.PutLaws.{put-end, wrote-more}
+use Rattle.octets.proofs.PutLaws.{put_end, wrote_more}
 use Rattle.attester.specs.Entry.{entries}
-use Rattle.attester.specs.Record.{bit, flag, child-octets, node-record}
+use Rattle.attester.specs.Record.{bit, flag, child_octets, node_record}
 use Rattle.attester.specs.Tree.{tree}
 use Rattle.attester.specs.Label.{label, digest}
-use Rattle.attester.proofs.EntryLaws.{entries-front}
-use Rattle.attester.proofs.LabelLaws.{label-none, label-bit, digest-none, digest-of-entries}
+use Rattle.attester.proofs.EntryLaws.{entries_front}
+use Rattle.attester.proofs.LabelLaws.{label_none, label_bit, digest_none, digest_of_entries}
 use Rattle.tree.specs.Edition.{width}
-use Rattle.tree.specs.Labels.{one-if, flag-of, label_of}
+use Rattle.tree.specs.Labels.{one_if, flag_of, label_of}
 
-pub one-if-most : (b : Bool) → one-if b ≤ 1
-one-if-most true = omega arith
-one-if-most false = omega arith
+pub one_if_most : (b : Bool) → one_if b ≤ 1
+one_if_most true = omega arith
+one_if_most false = omega arith
 
 -- three writes, one after the other, after the first octet
-pub record-written : {d d₁ d₂ d₃ l k r : Octets} {f p q e : ℕ} → take 1 d ≡ f ∷ [] → 1 + length l + length k + length r ≡ length d
+pub record_written : {d d₁ d₂ d₃ l k r : Octets} {f p q e : ℕ} → take 1 d ≡ f ∷ [] → 1 + length l + length k + length r ≡ length d
     → Wrote d 1 l d₁ p → Wrote d₁ p k d₂ q → Wrote d₂ q r d₃ e → d₃ ≡ f ∷ (l ++ (k ++ r))
-record-written {d} {d₁} {d₂} {d₃} {l} {k} {r} {f} {p} {q} {e} first fits w₁ w₂ w₃ =
-    let w = wrote-more (wrote-more w₁ w₂ (omega arith)) w₃ (rw (length-append l k) (omega arith)) in
-    w.left ∙ put-end d 1 (l ++ k ++ r) (rw (length-append (l ++ k) r, length-append l k) (omega arith)) ∙ rw (first, append_assoc l k r)
+record_written {d} {d₁} {d₂} {d₃} {l} {k} {r} {f} {p} {q} {e} first fits w₁ w₂ w₃ =
+    let w = wrote_more (wrote_more w₁ w₂ (omega arith)) w₃ (rw (length-append l k) (omega arith)) in
+    w.left ∙ put_end d 1 (l ++ k ++ r) (rw (length-append (l ++ k) r, length-append l k) (omega arith)) ∙ rw (first, append_assoc l k r)
 
 module _ (H : Octets → Octets) where
-  pub label-of-none : (keys : Octets) → length keys / 20 ≡ 0 → replicate {A = ℕ} 32 0 ≡ label_of H width keys
+  pub label_of_none : (keys : Octets) → length keys / 20 ≡ 0 → replicate {A = ℕ} 32 0 ≡ label_of H width keys
   unfolding label_of entries
-  label-of-none keys e = rw (e, digest-none H)
+  label_of_none keys e = rw (e, digest_none H)
 
   -- there is a child where there are entries
-  bit-of-entries : (m : ℕ) (s : Octets) → bit (label H (tree (entries width m s))) ≡ one-if (ltb 0 m)
+  bit_of_entries : (m : ℕ) (s : Octets) → bit (label H (tree (entries width m s))) ≡ one_if (ltb 0 m)
   unfolding entries
-  bit-of-entries zero s = rw (label-none H)
-  bit-of-entries (suc m) s = label-bit H (entries width (suc m) s) (omega arith) ∙ rw (lt-ltb 0 (suc m) (omega arith))
+  bit_of_entries zero s = rw (label_none H)
+  bit_of_entries (suc m) s = label_bit H (entries width (suc m) s) (omega arith) ∙ rw (lt-ltb 0 (suc m) (omega arith))
 
   -- the keys before the root, and those after it
-  label-before : (keys : Octets) (m at : ℕ) → at ≡ 20 * m → at ≤ length keys
-      → label_of H width (take at keys) ≡ child-octets (label H (tree (entries width m keys)))
+  label_before : (keys : Octets) (m at : ℕ) → at ≡ 20 * m → at ≤ length keys
+      → label_of H width (take at keys) ≡ child_octets (label H (tree (entries width m keys)))
   unfolding label_of digest
-  label-before keys m at e h =
+  label_before keys m at e h =
       let n : length (take at keys) / 20 ≡ m = rw length-take (omega arith) in
-      rw (n, entries-front width m at keys (omega arith))
+      rw (n, entries_front width m at keys (omega arith))
 
   label_after : (keys : Octets) (m at : ℕ) → length (drop at keys) / 20 ≡ m
-      → label_of H width (take (length keys - at) (drop at keys)) ≡ child-octets (label H (tree (entries width m (drop at keys))))
+      → label_of H width (take (length keys - at) (drop at keys)) ≡ child_octets (label H (tree (entries width m (drop at keys))))
   unfolding label_of digest
   label_after keys m at e = rw (take_all (length keys - at) (drop at keys) (rw length-drop (omega arith)), e)
 
-  pub label-of-node : (keys : Octets) {l r rec h : Octets} {f : ℕ}
+  pub label_of_node : (keys : Octets) {l r rec h : Octets} {f : ℕ}
       → 0 < length keys / 20
       → l ≡ label_of H width (take (20 * (length keys / 20 / 2)) keys)
       → r ≡ label_of H width (take (length keys - (20 * (length keys / 20 / 2) + 20)) (drop (20 * (length keys / 20 / 2) + 20) keys))
-      → f ≡ flag-of (ltb 0 (length keys / 20 / 2)) (ltb 0 (length keys / 20 - length keys / 20 / 2 - 1))
+      → f ≡ flag_of (ltb 0 (length keys / 20 / 2)) (ltb 0 (length keys / 20 - length keys / 20 / 2 - 1))
       → rec ≡ f ∷ (l ++ (take (20 * (length keys / 20 / 2) + 20 - 20 * (length keys / 20 / 2)) (drop (20 * (length keys / 20 / 2)) keys) ++ r))
       → h ≡ H rec
       → h ≡ label_of H width keys
-  unfolding label_of node-record flag
-  label-of-node keys {l} {r} {rec} {h} {f} some el er ef erec eh =
+  unfolding label_of node_record flag
+  label_of_node keys {l} {r} {rec} {h} {f} some el er ef erec eh =
       let n : ℕ = length keys / 20 in
       let at : ℕ = 20 * (n / 2) in
-      let key-width : at + 20 - at ≡ 20 = omega arith in
+      let key_width : at + 20 - at ≡ 20 = omega arith in
       let start : n / 2 * 20 ≡ at = omega arith in
       let next : suc (n / 2) * 20 ≡ at + 20 = omega arith in
       let after : n - n / 2 - 1 ≡ n - suc (n / 2) = omega arith in
-      let a = label-before keys (n / 2) at refl (omega arith) in
+      let a = label_before keys (n / 2) at refl (omega arith) in
       let b = label_after keys (n - suc (n / 2)) (at + 20) (rw length-drop (omega arith)) in
-      let c = bit-of-entries (n / 2) keys in
-      let d = bit-of-entries (n - suc (n / 2)) (drop (at + 20) keys) in
-      eh ∙ rw (erec, ef, el, er, a, b, key-width, after, ← c, ← d)
-      (sym (digest-of-entries H width n keys some ∙ rw (start, next)))
+      let c = bit_of_entries (n / 2) keys in
+      let d = bit_of_entries (n - suc (n / 2)) (drop (at + 20) keys) in
+      eh ∙ rw (erec, ef, el, er, a, b, key_width, after, ← c, ← d)
+      (sym (digest_of_entries H width n keys some ∙ rw (start, next)))

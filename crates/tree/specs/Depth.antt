@@ -5,6 +5,6 @@ use Rattle.attester.specs.Tree.{tree}
 use Rattle.attester.specs.Depth.{depth, bit_length}
 
 -- 01: the tree of n keys has r levels; "Its depth is the bit length of n, the position of the highest one bit"
-pub record Depth-of (n r : ℕ) : Type 0 where
+pub record DepthOf (n r : ℕ) : Type 0 where
   pub bits : r ≡ bit_length n
   pub levels : (keys : List Octets) → length keys ≡ n → depth (tree keys) ≡ r

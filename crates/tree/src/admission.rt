@@ -3,7 +3,7 @@ ghost use Rattle.std.specs.Prelude.{◌≡◌, ◌*◌, ◌/◌, ◌≤◌, ◌<
 ghost use Rattle.attester.specs.Entry.{entries};
 ghost use Rattle.attester.specs.Admission.{misplaced, sound};
 ghost use Rattle.attester.specs.Admission as specs;
-ghost use Rattle.tree.specs.Admitted.{answer-of};
+ghost use Rattle.tree.specs.Admitted.{answer_of};
 ghost use Rattle.tree.specs.Edition.{width, most};
 
 use answer::Answer;
@@ -11,7 +11,7 @@ use answer::Answer;
 // Answers the number of keys, or refuses with the index of the first key not above the one before it.
 fn ascending(keys: &[u8], n: usize) -> Answer
     requires { (0 < n) × (n ≤ most) × (length keys.now ≡ n * width) }
-    ensures { result ≡ answer-of (sound (misplaced (entries width n keys.now)) (entries width n keys.now)) }
+    ensures { result ≡ answer_of (sound (misplaced (entries width n keys.now)) (entries width n keys.now)) }
 {
     let mut i = 1;
     while i < n {
@@ -29,7 +29,7 @@ fn ascending(keys: &[u8], n: usize) -> Answer
 
 // Answers the number of keys of an accepted list; else refuses, in document 01's order.
 pub fn admit(keys: &[u8]) -> Answer
-    ensures { result ≡ answer-of (specs.admit width most keys.now) }
+    ensures { result ≡ answer_of (specs.admit width most keys.now) }
 {
     if keys.len() == 0 {
         return Answer::Refused {

@@ -2,11 +2,11 @@
 ghost use Rattle.std.specs.Prelude.{◌≡◌, ◌∷◌, ◌++◌, ◌/◌, length};
 ghost use Rattle.profile.specs.Profile as specs;
 ghost use Rattle.tree.specs.Edition.{width};
-ghost use Rattle.tree.specs.Labels.{flag-of, label_of};
+ghost use Rattle.tree.specs.Labels.{flag_of, label_of};
 
 // Octet 0 of a node record: 1 if there is a left child plus 2 if there is a right one.
 pub fn flag(left: bool, right: bool) -> u8
-    ensures { result ≡ flag-of left right }
+    ensures { result ≡ flag_of left right }
 {
     left as u8 + 2 * (right as u8)
 }

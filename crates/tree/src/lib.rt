@@ -2,14 +2,14 @@
 pub mod admission;
 pub mod labels;
 
-ghost use Rattle.tree.specs.Depth.{Depth-of};
+ghost use Rattle.tree.specs.Depth.{DepthOf};
 ghost use Rattle.tree.specs.Digest.{Digested};
 
 use answer::Answer;
 
 // How many levels the tree of n keys has: 12 for 3,000.
 pub fn depth(n: u32) -> u32
-    ensures { Depth-of n result }
+    ensures { DepthOf n result }
 {
     32 - u32::leading_zeros(n)
 }

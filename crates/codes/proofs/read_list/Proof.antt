@@ -6,7 +6,7 @@ use lib.ListN.{length}
 use Rattle.answer.specs.Answer.{written}
 use Rattle.codes.specs.Text.{reading}
 use Rattle.codes.specs.Read.{keys}
-use Rattle.codes.proofs.WriteLaws.{written-done}
+use Rattle.codes.proofs.WriteLaws.{written_done}
 use Rattle.codes.proofs.read_list.Statement.{statement}
 use Rattle.codes.proofs.read_list.Tie as tie
 
@@ -33,7 +33,7 @@ same_length : tie.Need-same-length
 same_length c = c.before.before.write-keys.auto.1.1.0
 
 returns-2 : tie.Need-returns-2
-returns-2 c = let a = c.before.before.before.before.before.before.before.before.before.before.args in record { answered = sym c.before.before.before.before.before.a.given.1 ∙ c.before.before.before.before.before.before.before.judge.ensures; left = c.before.before.write-keys.ensures ∙ written-done _ (keys (reading (length a.out.now) a.text.now)) a.out.now }
+returns-2 c = let a = c.before.before.before.before.before.before.before.before.before.before.args in record { answered = sym c.before.before.before.before.before.a.given.1 ∙ c.before.before.before.before.before.before.before.judge.ensures; left = c.before.before.write-keys.ensures ∙ written_done _ (keys (reading (length a.out.now) a.text.now)) a.out.now }
 
 pub read-list-spec : {M : Type 1} → statement M
 read-list-spec =

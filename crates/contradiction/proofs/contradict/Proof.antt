@@ -1,5 +1,5 @@
 -- No number, or the first that is alike, handed over.
-use Rattle.contradiction.proofs.DrilledLaws.{contradict-none, contradict-found}
+use Rattle.contradiction.proofs.DrilledLaws.{contradict_none, contradict_found}
 use borrow.Author.Rules.{rules}
 use Rattle.contradiction.proofs.contradict.Statement.{statement}
 use Rattle.contradiction.proofs.contradict.Tie as tie
@@ -13,7 +13,7 @@ enum-known-t c = search rules
 returns : tie.Need-returns
 returns c =
     let a = c.before.before.before.before.before.args in
-    contradict-none a.listed.now a.out1.now a.out2.now a.bound c.before.first_alike.ensures c.match.keys2
+    contradict_none a.listed.now a.out1.now a.out2.now a.bound c.before.first_alike.ensures c.match.keys2
 
 hand-over-requires : tie.Need-hand-over-requires
 hand-over-requires c κs = search rules
@@ -30,7 +30,7 @@ returns-2 c =
     let found = shown.before.before.before.before in
     let searched = found.before.before in
     let a = searched.before.before.before.before.args in
-    contradict-found a.listed.now a.out1.now a.out2.now a.bound searched.first_alike.ensures found.t.given.1 shown.hand-over.ensures
+    contradict_found a.listed.now a.out1.now a.out2.now a.bound searched.first_alike.ensures found.t.given.1 shown.hand-over.ensures
 
 pub contradict-spec : {M : Type 1} → statement M
 contradict-spec =

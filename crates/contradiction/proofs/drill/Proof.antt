@@ -5,7 +5,7 @@ use native.Mathlib.Omega.{arith}
 use Prim.Native.Nat.{ℕ}
 use lib.ListN.{length-replicate}
 use lib.Seq.{length-take-le}
-use Rattle.contradiction.proofs.DrilledLaws.{drilled-first-size, drilled-second-size, drilled-refused, drilled-more, drilled-one}
+use Rattle.contradiction.proofs.DrilledLaws.{drilled_first_size, drilled_second_size, drilled_refused, drilled_more, drilled_one}
 use borrow.Author.Rules.{rules}
 use Rattle.contradiction.proofs.drill.Statement.{statement}
 use Rattle.contradiction.proofs.drill.Tie as tie
@@ -13,12 +13,12 @@ use Rattle.contradiction.proofs.drill.Tie as tie
 returns : tie.Need-returns
 returns c =
     let a = c.before.before.before.before.args in
-    drilled-first-size a.text.now a.bound a.out1.now a.out2.now (λ e. omega arith)
+    drilled_first_size a.text.now a.bound a.out1.now a.out2.now (λ e. omega arith)
 
 returns-2 : tie.Need-returns-2
 returns-2 c =
     let a = c.before.before.before.before.before.args in
-    drilled-second-size a.text.now a.bound a.out1.now a.out2.now (omega arith) (λ e. omega arith)
+    drilled_second_size a.text.now a.bound a.out1.now a.out2.now (omega arith) (λ e. omega arith)
 
 slice-aggregate-read-list : tie.Need-slice-aggregate-read-list
 slice-aggregate-read-list c = search rules
@@ -36,7 +36,7 @@ returns-3 : tie.Need-returns-3
 returns-3 c =
     let listed = c.before.before.before.before.before in
     let a = listed.before.before.before.before.before.before.before.args in
-    drilled-more a.text.now a.bound a.out1.now a.out2.now (omega arith) (omega arith)
+    drilled_more a.text.now a.bound a.out1.now a.out2.now (omega arith) (omega arith)
     (length-replicate {A = ℕ} 60000 0) listed.read-list.ensures c.before.before.a2.given.1 (omega arith)
 
 array-share-prefix-keys : tie.Need-array-share-prefix-keys
@@ -56,7 +56,7 @@ returns-4 : tie.Need-returns-4
 returns-4 c =
     let listed = c.before.before.before.before in
     let a = listed.before.before.before.before.before.before.before.args in
-    drilled-refused a.text.now a.bound a.out1.now a.out2.now (omega arith) (omega arith)
+    drilled_refused a.text.now a.bound a.out1.now a.out2.now (omega arith) (omega arith)
     (length-replicate {A = ℕ} 60000 0) listed.read-list.ensures c.before.a.given.1
 
 same_length : tie.Need-same-length
@@ -69,7 +69,7 @@ returns-5 : tie.Need-returns-5
 returns-5 c =
     let listed = c.before.before.before.before.before.before.before.before.before.before.before.before.before in
     let a = listed.before.before.before.before.before.before.before.args in
-    drilled-one a.text.now a.bound a.out1.now a.out2.now (omega arith) (omega arith)
+    drilled_one a.text.now a.bound a.out1.now a.out2.now (omega arith) (omega arith)
     (length-replicate {A = ℕ} 60000 0) listed.read-list.ensures c.before.before.before.before.before.before.before.before.before.before.a2.given.1 c.before.before.before.before.contradict.ensures (omega arith)
 
 pub drill-spec : {M : Type 1} → statement M

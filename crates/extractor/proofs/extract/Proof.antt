@@ -3,8 +3,8 @@ use mathlib.Core.Path.{sym, ◌∙◌}
 use native.Mathlib.Omega.{arith}
 use borrow.Author.Tests.{not-true, not-false}
 use Rattle.extractor.proofs.SizedLaws.{buffers}
-use Rattle.extractor.proofs.PassedLaws.{level-few}
-use Rattle.extractor.proofs.ExtractedLaws.{extracted-unknown, extracted-unsized, extracted-first, extracted-second, extracted-same, contradicting, extracted-done}
+use Rattle.extractor.proofs.PassedLaws.{level_few}
+use Rattle.extractor.proofs.ExtractedLaws.{extracted_unknown, extracted_unsized, extracted_first, extracted_second, extracted_same, contradicting, extracted_done}
 use borrow.Author.Rules.{rules}
 use Rattle.extractor.proofs.extract.Statement.{statement}
 use Rattle.extractor.proofs.extract.Tie as tie
@@ -15,7 +15,7 @@ known-requires c κs = search rules
 returns : tie.Need-returns
 returns c =
     let a = c.before.before.before.before.before.before.before.before.args in
-    extracted-unknown a.profile a.key.now a.digest.now a.first.now a.second.now a.out1.now a.out2.now
+    extracted_unknown a.profile a.key.now a.digest.now a.first.now a.second.now a.out1.now a.out2.now
     (sym c.before.known.ensures ∙ not-true _ c.if1.true)
 
 sized-requires : tie.Need-sized-requires
@@ -25,7 +25,7 @@ returns-2 : tie.Need-returns-2
 returns-2 c =
     let s = c.before.before.before.before.before.before.before.before.before.before in
     let k = sym c.before.before.before.known.ensures ∙ not-false _ c.before.before.if1.false in
-    extracted-unsized s.args.profile k s.args.key.now s.args.digest.now s.args.first.now s.args.second.now s.args.out1.now s.args.out2.now c.before.sized.ensures (not-true _ c.if2.true)
+    extracted_unsized s.args.profile k s.args.key.now s.args.digest.now s.args.first.now s.args.second.now s.args.out1.now s.args.out2.now c.before.sized.ensures (not-true _ c.if2.true)
 
 verify-requires : tie.Need-verify-requires
 verify-requires c κs = search rules
@@ -43,7 +43,7 @@ returns-3 : tie.Need-returns-3
 returns-3 c =
     let s = c.before.before.before.before.before.before.before.before.before.before.before.before.before.before in
     let k = sym c.before.before.before.before.before.before.before.known.ensures ∙ not-false _ c.before.before.before.before.before.before.if1.false in
-    extracted-first s.args.profile k s.args.key.now s.args.digest.now s.args.first.now s.args.second.now s.args.out1.now s.args.out2.now c.before.before.before.before.before.sized.ensures (not-false _ c.before.before.before.before.if2.false) c.before.before.before.verify.ensures c.before.before.told.ensures c.enum_told.given.1
+    extracted_first s.args.profile k s.args.key.now s.args.digest.now s.args.first.now s.args.second.now s.args.out1.now s.args.out2.now c.before.before.before.before.before.sized.ensures (not-false _ c.before.before.before.before.if2.false) c.before.before.before.verify.ensures c.before.before.told.ensures c.enum_told.given.1
 
 verify-requires-2 : tie.Need-verify-requires-2
 verify-requires-2 c κs = search rules
@@ -61,13 +61,13 @@ returns-4 : tie.Need-returns-4
 returns-4 c =
     let s = c.before.before.before.before.before.before.before.before.before.before.before.before.before.before.before.before.before.before.before in
     let k = sym c.before.before.before.before.before.before.before.before.before.before.before.before.known.ensures ∙ not-false _ c.before.before.before.before.before.before.before.before.before.before.before.if1.false in
-    extracted-second s.args.profile k s.args.key.now s.args.digest.now s.args.first.now s.args.second.now s.args.out1.now s.args.out2.now c.before.before.before.before.before.before.before.before.before.before.sized.ensures (not-false _ c.before.before.before.before.before.before.before.before.before.if2.false) c.before.before.before.before.before.before.before.before.verify.ensures c.before.before.before.before.before.before.before.told.ensures c.before.before.before.before.before.a.given.1 c.before.before.before.verify2.ensures c.before.before.told2.ensures c.enum-told2.given.1
+    extracted_second s.args.profile k s.args.key.now s.args.digest.now s.args.first.now s.args.second.now s.args.out1.now s.args.out2.now c.before.before.before.before.before.before.before.before.before.before.sized.ensures (not-false _ c.before.before.before.before.before.before.before.before.before.if2.false) c.before.before.before.before.before.before.before.before.verify.ensures c.before.before.before.before.before.before.before.told.ensures c.before.before.before.before.before.a.given.1 c.before.before.before.verify2.ensures c.before.before.told2.ensures c.enum-told2.given.1
 
 returns-5 : tie.Need-returns-5
 returns-5 c =
     let s = c.before.before.before.before.before.before.before.before.before.before.before.before.before.before.before.before.before.before.before.before.before in
     let k = sym c.before.before.before.before.before.before.before.before.before.before.before.before.before.before.known.ensures ∙ not-false _ c.before.before.before.before.before.before.before.before.before.before.before.before.before.if1.false in
-    extracted-same s.args.profile k s.args.key.now s.args.digest.now s.args.first.now s.args.second.now s.args.out1.now s.args.out2.now c.before.before.before.before.before.before.before.before.before.before.before.before.sized.ensures (not-false _ c.before.before.before.before.before.before.before.before.before.before.before.if2.false) c.before.before.before.before.before.before.before.before.before.before.verify.ensures c.before.before.before.before.before.before.before.before.before.told.ensures c.before.before.before.before.before.before.before.a.given.1 c.before.before.before.before.before.verify2.ensures c.before.before.before.before.told2.ensures c.before.before.b.given.1 c.if3.true
+    extracted_same s.args.profile k s.args.key.now s.args.digest.now s.args.first.now s.args.second.now s.args.out1.now s.args.out2.now c.before.before.before.before.before.before.before.before.before.before.before.before.sized.ensures (not-false _ c.before.before.before.before.before.before.before.before.before.before.before.if2.false) c.before.before.before.before.before.before.before.before.before.before.verify.ensures c.before.before.before.before.before.before.before.before.before.told.ensures c.before.before.before.before.before.before.before.a.given.1 c.before.before.before.before.before.verify2.ensures c.before.before.before.before.told2.ensures c.before.before.b.given.1 c.if3.true
 
 passed-requires : tie.Need-passed-requires
 passed-requires c κs =
@@ -107,7 +107,7 @@ cast-t31 : tie.Need-overflow-cast-t31
 cast-t31 c =
     let s = c.before.before.before.before.before.before.before.before.before.before.before.before.before.before.before.before.before.before.before.before.before.before.before.before.before.before.before.before.before.before.before.before.before.before in
     let k = sym c.before.before.before.before.before.before.before.before.before.before.before.before.before.before.before.before.before.before.before.before.before.before.before.before.before.before.before.known.ensures ∙ not-false _ c.before.before.before.before.before.before.before.before.before.before.before.before.before.before.before.before.before.before.before.before.before.before.before.before.before.before.if1.false in
-    omega (arith, c.before.before.before.before.before.before.before.before.before.before.before.before.passed.ensures.1, level-few s.args.first.now (contradicting s.args.profile k s.args.key.now s.args.digest.now s.args.first.now s.args.second.now s.args.out1.now s.args.out2.now c.before.before.before.before.before.before.before.before.before.before.before.before.before.before.before.before.before.before.before.before.before.before.before.before.before.sized.ensures (not-false _ c.before.before.before.before.before.before.before.before.before.before.before.before.before.before.before.before.before.before.before.before.before.before.before.before.if2.false) c.before.before.before.before.before.before.before.before.before.before.before.before.before.before.before.before.before.before.before.before.before.before.before.verify.ensures c.before.before.before.before.before.before.before.before.before.before.before.before.before.before.before.before.before.before.before.before.before.before.told.ensures c.before.before.before.before.before.before.before.before.before.before.before.before.before.before.before.before.before.before.before.before.a.given.1 c.before.before.before.before.before.before.before.before.before.before.before.before.before.before.before.before.before.before.verify2.ensures c.before.before.before.before.before.before.before.before.before.before.before.before.before.before.before.before.before.told2.ensures c.before.before.before.before.before.before.before.before.before.before.before.before.before.before.before.b.given.1 (λ e. c.before.before.before.before.before.before.before.before.before.before.before.before.before.if3.false e)).0)
+    omega (arith, c.before.before.before.before.before.before.before.before.before.before.before.before.passed.ensures.1, level_few s.args.first.now (contradicting s.args.profile k s.args.key.now s.args.digest.now s.args.first.now s.args.second.now s.args.out1.now s.args.out2.now c.before.before.before.before.before.before.before.before.before.before.before.before.before.before.before.before.before.before.before.before.before.before.before.before.before.sized.ensures (not-false _ c.before.before.before.before.before.before.before.before.before.before.before.before.before.before.before.before.before.before.before.before.before.before.before.before.if2.false) c.before.before.before.before.before.before.before.before.before.before.before.before.before.before.before.before.before.before.before.before.before.before.before.verify.ensures c.before.before.before.before.before.before.before.before.before.before.before.before.before.before.before.before.before.before.before.before.before.before.told.ensures c.before.before.before.before.before.before.before.before.before.before.before.before.before.before.before.before.before.before.before.before.a.given.1 c.before.before.before.before.before.before.before.before.before.before.before.before.before.before.before.before.before.before.verify2.ensures c.before.before.before.before.before.before.before.before.before.before.before.before.before.before.before.before.before.told2.ensures c.before.before.before.before.before.before.before.before.before.before.before.before.before.before.before.b.given.1 (λ e. c.before.before.before.before.before.before.before.before.before.before.before.before.before.if3.false e)).0)
 
 same_length : tie.Need-same-length
 same_length c = search rules
@@ -119,7 +119,7 @@ returns-6 : tie.Need-returns-6
 returns-6 c =
     let s = c.before.before.before.before.before.before.before.before.before.before.before.before.before.before.before.before.before.before.before.before.before.before.before.before.before.before.before.before.before.before.before.before.before.before in
     let k = sym c.before.before.before.before.before.before.before.before.before.before.before.before.before.before.before.before.before.before.before.before.before.before.before.before.before.before.before.known.ensures ∙ not-false _ c.before.before.before.before.before.before.before.before.before.before.before.before.before.before.before.before.before.before.before.before.before.before.before.before.before.before.if1.false in
-    extracted-done s.args.profile k s.args.key.now s.args.digest.now s.args.first.now s.args.second.now s.args.out1.now s.args.out2.now c.before.before.before.before.before.before.before.before.before.before.before.before.before.before.before.before.before.before.before.before.before.before.before.before.before.sized.ensures (not-false _ c.before.before.before.before.before.before.before.before.before.before.before.before.before.before.before.before.before.before.before.before.before.before.before.before.if2.false) c.before.before.before.before.before.before.before.before.before.before.before.before.before.before.before.before.before.before.before.before.before.before.before.verify.ensures c.before.before.before.before.before.before.before.before.before.before.before.before.before.before.before.before.before.before.before.before.before.before.told.ensures c.before.before.before.before.before.before.before.before.before.before.before.before.before.before.before.before.before.before.before.before.a.given.1 c.before.before.before.before.before.before.before.before.before.before.before.before.before.before.before.before.before.before.verify2.ensures c.before.before.before.before.before.before.before.before.before.before.before.before.before.before.before.before.before.told2.ensures c.before.before.before.before.before.before.before.before.before.before.before.before.before.before.before.b.given.1 (λ e. c.before.before.before.before.before.before.before.before.before.before.before.before.before.if3.false e) c.before.before.before.before.before.before.before.before.before.before.before.before.passed.ensures.0 c.before.before.before.before.before.before.before.before.before.before.«record».ensures c.before.before.before.before.record2.ensures c.before.before.before.before.before.before.before.before.put.ensures c.before.before.put2.ensures
+    extracted_done s.args.profile k s.args.key.now s.args.digest.now s.args.first.now s.args.second.now s.args.out1.now s.args.out2.now c.before.before.before.before.before.before.before.before.before.before.before.before.before.before.before.before.before.before.before.before.before.before.before.before.before.sized.ensures (not-false _ c.before.before.before.before.before.before.before.before.before.before.before.before.before.before.before.before.before.before.before.before.before.before.before.before.if2.false) c.before.before.before.before.before.before.before.before.before.before.before.before.before.before.before.before.before.before.before.before.before.before.before.verify.ensures c.before.before.before.before.before.before.before.before.before.before.before.before.before.before.before.before.before.before.before.before.before.before.told.ensures c.before.before.before.before.before.before.before.before.before.before.before.before.before.before.before.before.before.before.before.before.a.given.1 c.before.before.before.before.before.before.before.before.before.before.before.before.before.before.before.before.before.before.verify2.ensures c.before.before.before.before.before.before.before.before.before.before.before.before.before.before.before.before.before.told2.ensures c.before.before.before.before.before.before.before.before.before.before.before.before.before.before.before.b.given.1 (λ e. c.before.before.before.before.before.before.before.before.before.before.before.before.before.if3.false e) c.before.before.before.before.before.before.before.before.before.before.before.before.passed.ensures.0 c.before.before.before.before.before.before.before.before.before.before.«record».ensures c.before.before.before.before.record2.ensures c.before.before.before.before.before.before.before.before.put.ensures c.before.before.put2.ensures
 
 pub extract-spec : {M : Type 1} → statement M
 extract-spec =

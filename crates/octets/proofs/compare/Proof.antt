@@ -4,7 +4,7 @@ use Prim.Native.Nat.{◌≤◌, ◌-◌}
 use native.Mathlib.Omega.{arith}
 use lib.ListN.{length, drop}
 use Rattle.octets.specs.Order.{order}
-use Rattle.octets.proofs.CompareLaws.{stop-shorter, stop-longer, stop-equal, stop-less, stop-greater, turn}
+use Rattle.octets.proofs.CompareLaws.{stop_shorter, stop_longer, stop_equal, stop_less, stop_greater, turn}
 use Rattle.octets.proofs.compare.Statement.{statement}
 use Rattle.octets.proofs.compare.Tie as tie
 
@@ -18,7 +18,7 @@ loop-holds : tie.Need-loop-init invariant-loop decreases-loop
 loop-holds c = (omega arith, refl)
 
 returns : tie.Need-returns invariant-loop decreases-loop
-returns c = let l = c.before.before in stop-longer l.before.args.a.now l.before.args.b.now l.loop.i l.loop.invariant.1 (omega arith) (omega arith)
+returns c = let l = c.before.before in stop_longer l.before.args.a.now l.before.args.b.now l.loop.i l.loop.invariant.1 (omega arith) (omega arith)
 
 shared-slice-read-if2 : tie.Need-shared-slice-read-if2 invariant-loop decreases-loop
 shared-slice-read-if2 c = omega arith
@@ -28,7 +28,7 @@ shared-slice-read-if2-2 c = omega arith
 
 returns-2 : tie.Need-returns-2 invariant-loop decreases-loop
 returns-2 c = let l = c.before.before.before.before.before in
-    stop-less l.before.args.a.now l.before.args.b.now l.loop.i l.loop.invariant.1 (omega arith) (omega arith) c.if2.true
+    stop_less l.before.args.a.now l.before.args.b.now l.loop.i l.loop.invariant.1 (omega arith) (omega arith) c.if2.true
 
 shared-slice-read-if3 : tie.Need-shared-slice-read-if3 invariant-loop decreases-loop
 shared-slice-read-if3 c = omega arith
@@ -38,7 +38,7 @@ shared-slice-read-if3-2 c = omega arith
 
 returns-3 : tie.Need-returns-3 invariant-loop decreases-loop
 returns-3 c = let l = c.before.before.before.before.before.before.before.before in
-    stop-greater l.before.args.a.now l.before.args.b.now l.loop.i l.loop.invariant.1 (omega arith) (omega arith) c.if3.true
+    stop_greater l.before.args.a.now l.before.args.b.now l.loop.i l.loop.invariant.1 (omega arith) (omega arith) c.if3.true
 
 add-i : tie.Need-overflow-add-i invariant-loop decreases-loop
 add-i c = omega arith
@@ -52,11 +52,11 @@ loop-again c = let l = c.before.before.before.before.before.before.before.before
 
 returns-4 : tie.Need-returns-4 invariant-loop decreases-loop
 returns-4 c = let l = c.before.before in
-    stop-shorter l.before.args.a.now l.before.args.b.now l.loop.i l.loop.invariant.1 (omega arith) c.if4.true
+    stop_shorter l.before.args.a.now l.before.args.b.now l.loop.i l.loop.invariant.1 (omega arith) c.if4.true
 
 returns-5 : tie.Need-returns-5 invariant-loop decreases-loop
 returns-5 c = let l = c.before.before in
-    stop-equal l.before.args.a.now l.before.args.b.now l.loop.i l.loop.invariant.1 (omega arith) (omega arith)
+    stop_equal l.before.args.a.now l.before.args.b.now l.loop.i l.loop.invariant.1 (omega arith) (omega arith)
 
 pub compare-spec : {M : Type 1} → statement M
 compare-spec =

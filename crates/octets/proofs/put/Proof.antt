@@ -6,7 +6,7 @@ use native.Mathlib.Numerals.{add-one}
 use native.Mathlib.Omega.{arith}
 use lib.ListN.{length, length-set}
 use lib.Seq.{paste, paste-zero, paste-suc}
-use Rattle.octets.proofs.PutLaws.{put-paste}
+use Rattle.octets.proofs.PutLaws.{put_paste}
 use Rattle.octets.proofs.put.Statement.{statement}
 use Rattle.octets.proofs.put.Tie as tie
 
@@ -51,7 +51,7 @@ same_length : tie.Need-same-length invariant-loop decreases-loop
 same_length c = omega arith
 
 returns : tie.Need-returns invariant-loop decreases-loop
-returns c = record { ends = refl; left = c.before.loop.invariant.0 ∙ rw (le_antisymm c.before.loop.invariant.1 c.loop-test.false) (put-paste _ _ _) }
+returns c = record { ends = refl; left = c.before.loop.invariant.0 ∙ rw (le_antisymm c.before.loop.invariant.1 c.loop-test.false) (put_paste _ _ _) }
 
 pub put_spec : {M : Type 1} → statement M
 put_spec =

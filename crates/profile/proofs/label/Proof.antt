@@ -1,7 +1,7 @@
 -- The hash whole, or its first 2 octets written into 32 zeros.
 use mathlib.Core.Path.{sym}
 use native.Mathlib.Omega.{arith}
-use Rattle.profile.proofs.ProfileLaws.{label-whole, kept-length, label-short}
+use Rattle.profile.proofs.ProfileLaws.{label_whole, kept_length, label_short}
 use borrow.Author.Rules.{rules}
 use Rattle.profile.proofs.label.Statement.{statement}
 use Rattle.profile.proofs.label.Tie as tie
@@ -10,7 +10,7 @@ sha256-requires : tie.Need-sha256-requires
 sha256-requires c κs = search rules
 
 returns : tie.Need-returns
-returns c = let a = c.before.before.before.args in label-whole a.profile a.rec.now c.before.sha256.ensures c.if1.true
+returns c = let a = c.before.before.before.args in label_whole a.profile a.rec.now c.before.sha256.ensures c.if1.true
 
 slice-aggregate-put : tie.Need-slice-aggregate-put
 slice-aggregate-put c = search rules
@@ -21,17 +21,17 @@ array-share-prefix-hash c = search rules
 slice-aggregate-put-2 : tie.Need-slice-aggregate-put-2
 slice-aggregate-put-2 c =
     let a = c.before.before.before.before.before.args in
-    sym (kept-length a.profile a.rec.now c.before.before.before.sha256.ensures 2 (omega arith))
+    sym (kept_length a.profile a.rec.now c.before.before.before.sha256.ensures 2 (omega arith))
 
 put-requires : tie.Need-put-requires
 put-requires c κs =
     let a = c.before.before.before.before.before.args in
-    omega (arith, kept-length a.profile a.rec.now c.before.before.before.sha256.ensures 2 (omega arith))
+    omega (arith, kept_length a.profile a.rec.now c.before.before.before.sha256.ensures 2 (omega arith))
 
 returns-2 : tie.Need-returns-2
 returns-2 c =
     let a = c.before.before.before.before.before.before.before.args in
-    label-short a.profile a.rec.now c.before.before.before.before.before.sha256.ensures c.before.before.before.before.if1.false c.before.put.ensures
+    label_short a.profile a.rec.now c.before.before.before.before.before.sha256.ensures c.before.before.before.before.if1.false c.before.put.ensures
 
 pub label-spec : {M : Type 1} → statement M
 label-spec =

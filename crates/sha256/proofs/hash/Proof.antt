@@ -1,14 +1,14 @@
 -- One case of the promise for each way out.
 use Rattle.std.proofs.Common.{arith, rules}
-use Rattle.sha256.proofs.HashLaws.{refused-message, refused-output, accepted}
+use Rattle.sha256.proofs.HashLaws.{refused_message, refused_output, accepted}
 use Rattle.sha256.proofs.hash.Statement.{statement}
 use Rattle.sha256.proofs.hash.Tie as tie
 
 returns : tie.Need-returns
-returns c = let a = c.before.before.before.args in refused-message a.msg.now a.out.now c.if1.true
+returns c = let a = c.before.before.before.args in refused_message a.msg.now a.out.now c.if1.true
 
 returns-2 : tie.Need-returns-2
-returns-2 c = let a = c.before.before.before.before.args in refused-output a.msg.now a.out.now (omega arith) c.if2.true
+returns-2 c = let a = c.before.before.before.before.args in refused_output a.msg.now a.out.now (omega arith) c.if2.true
 
 returns-3 : tie.Need-returns-3
 returns-3 c =

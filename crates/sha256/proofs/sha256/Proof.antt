@@ -1,7 +1,7 @@
 -- The message's whole blocks, then the last blocks, are the blocks of the padded message.
 use Rattle.std.proofs.Common.{◌-◌, ◌*◌, ◌/◌, length, ◌∙◌, arith, length-drop, length-take, rules}
 use Rattle.sha256.specs.Fips180.{zeros}
-use Rattle.sha256.proofs.BlockLaws.{two-parts}
+use Rattle.sha256.proofs.BlockLaws.{two_parts}
 use Rattle.sha256.proofs.sha256.Statement.{statement}
 use Rattle.sha256.proofs.sha256.Tie as tie
 
@@ -19,7 +19,7 @@ returns c =
     let f = length m / 64 in
     let h = rw start.initial.ensures at whole.blocks2.ensures in
     c.digest.ensures
-    ∙ two-parts m end.last-blocks.result f (length m - 64 * f) count.last-count.result (omega arith) (omega arith) end.last-blocks.ensures.1
+    ∙ two_parts m end.last-blocks.result f (length m - 64 * f) count.last-count.result (omega arith) (omega arith) end.last-blocks.ensures.1
     h c.before.blocks3.ensures
 
 pub sha256-spec : {M : Type 1} → statement M

@@ -6,9 +6,9 @@ use lib.ListN.{length, take, length-take}
 use lib.Seq.{take_all}
 use borrow.Author.Rules.{rules}
 use Rattle.octets.specs.Put.{Wrote}
-use Rattle.octets.proofs.PutLaws.{wrote_none, wrote-length}
+use Rattle.octets.proofs.PutLaws.{wrote_none, wrote_length}
 use Rattle.show.specs.Hex.{hex}
-use Rattle.show.proofs.HexLaws.{hex-turn, hex-length}
+use Rattle.show.proofs.HexLaws.{hex_turn, hex_length}
 use Rattle.show.proofs.put_hex.Statement.{statement}
 use Rattle.show.proofs.put_hex.Tie as tie
 
@@ -39,7 +39,7 @@ slice-aggregate-put c = search rules
 
 put-requires : tie.Need-put-requires invariant-loop decreases-loop
 put-requires c κs = let l = c.before.before.before.before.before.before.before.loop in let a = c.before.before.before.before.before.before.before.before.before.before.args in
-    omega (arith, l.invariant.2.ends, hex-length (take l.i a.src.now), length-take l.i a.src.now, c.before.before.before.before.before.before.before.before.before.before.requires, c.before.before.before.before.before.before.loop-test.true, l.invariant.1)
+    omega (arith, l.invariant.2.ends, hex_length (take l.i a.src.now), length-take l.i a.src.now, c.before.before.before.before.before.before.before.before.before.before.requires, c.before.before.before.before.before.before.loop-test.true, l.invariant.1)
 
 add-i : tie.Need-overflow-add-i invariant-loop decreases-loop
 add-i c = omega (arith, c.before.before.before.before.before.before.before.before.before)
@@ -49,10 +49,10 @@ loop-less c = omega (arith, c.before.before.before.before.before.before.before.b
 
 loop-again : tie.Need-loop-preserved invariant-loop decreases-loop
 loop-again c = let l = c.before.before.before.before.before.before.before.before.before.before.loop in let a = c.before.before.before.before.before.before.before.before.before.before.before.before.before.args in
-    let f : l.p + 2 ≤ length l.out = omega (arith, l.invariant.2.ends, hex-length (take l.i a.src.now), length-take l.i a.src.now, c.before.before.before.before.before.before.before.before.before.before.before.before.before.requires, c.before.before.before.before.before.before.before.before.before.loop-test.true, l.invariant.1) in (
+    let f : l.p + 2 ≤ length l.out = omega (arith, l.invariant.2.ends, hex_length (take l.i a.src.now), length-take l.i a.src.now, c.before.before.before.before.before.before.before.before.before.before.before.before.before.requires, c.before.before.before.before.before.before.before.before.before.loop-test.true, l.invariant.1) in (
       omega (arith, c.before.before.before.before.before.before.before.before.before),
-      wrote-length c.before.before.put.ensures f ∙ l.invariant.1,
-      hex-turn a.src.now a.out.now l.out c.before.before.put.new.0 a.at l.i l.p c.before.before.put.result c.before.before.before.before.before.before.before.digit-of.result c.before.before.before.before.before.digit-of2.result c.before.before.before.before.before.before.before.before.before.loop-test.true c.before.before.before.before.before.before.before.before.before.before.before.before.before.requires c.before.before.before.before.before.before.before.digit-of.ensures c.before.before.before.before.before.digit-of2.ensures l.invariant.2 c.before.before.put.ensures,
+      wrote_length c.before.before.put.ensures f ∙ l.invariant.1,
+      hex_turn a.src.now a.out.now l.out c.before.before.put.new.0 a.at l.i l.p c.before.before.put.result c.before.before.before.before.before.before.before.digit-of.result c.before.before.before.before.before.digit-of2.result c.before.before.before.before.before.before.before.before.before.loop-test.true c.before.before.before.before.before.before.before.before.before.before.before.before.before.requires c.before.before.before.before.before.before.before.digit-of.ensures c.before.before.before.before.before.digit-of2.ensures l.invariant.2 c.before.before.put.ensures,
     )
 
 same_length : tie.Need-same-length invariant-loop decreases-loop

@@ -2,10 +2,10 @@
 use native.Mathlib.Omega.{arith}
 use mathlib.Core.List.{[], ◌∷◌, ◌++◌}
 use lib.ListN.{length-append}
-use Rattle.octets.proofs.PutLaws.{wrote-more}
+use Rattle.octets.proofs.PutLaws.{wrote_more}
 use Rattle.show.specs.Decimal.{decimal}
-use Rattle.show.specs.Refusal.{refused-word, refusal-line}
-use Rattle.show.proofs.DecimalLaws.{decimal-length}
+use Rattle.show.specs.Refusal.{refused_word, refusal_line}
+use Rattle.show.proofs.DecimalLaws.{decimal_length}
 use borrow.Author.Rules.{rules}
 use Rattle.show.proofs.put_refusal.Statement.{statement}
 use Rattle.show.proofs.put_refusal.Tie as tie
@@ -18,14 +18,14 @@ put-requires c κs = search rules
 
 put-decimal-requires : tie.Need-put-decimal-requires
 put-decimal-requires c κs = let s = c.before.before.before.before.before.before.before in
-    omega (arith, s.requires, c.before.before.before.put.ensures.ends, c.before.before.before.put.auto, decimal-length 4 s.args.number (omega (arith, s.ranges.number.fits)))
+    omega (arith, s.requires, c.before.before.before.put.ensures.ends, c.before.before.before.put.auto, decimal_length 4 s.args.number (omega (arith, s.ranges.number.fits)))
 
 slice-aggregate-put-2 : tie.Need-slice-aggregate-put-2
 slice-aggregate-put-2 c = search rules
 
 put-requires-2 : tie.Need-put-requires-2
 put-requires-2 c κs = let s = c.before.before.before.before.before.before.before.before.before.before.before.before in
-    omega (arith, s.requires, c.before.before.before.before.before.before.before.before.put.ensures.ends, c.before.before.before.before.before.before.before.before.put.auto, c.before.before.before.before.put-decimal.ensures.ends, c.before.before.before.before.put-decimal.auto, decimal-length 4 s.args.number (omega (arith, s.ranges.number.fits)))
+    omega (arith, s.requires, c.before.before.before.before.before.before.before.before.put.ensures.ends, c.before.before.before.before.before.before.before.before.put.auto, c.before.before.before.before.put-decimal.ensures.ends, c.before.before.before.before.put-decimal.auto, decimal_length 4 s.args.number (omega (arith, s.ranges.number.fits)))
 
 put-decimal-requires-2 : tie.Need-put-decimal-requires-2
 put-decimal-requires-2 c κs = let s = c.before.before.before.before.before.before.before.before.before.before.before.before.before.before.before.before in
@@ -38,8 +38,8 @@ put-decimal-requires-2 c κs = let s = c.before.before.before.before.before.befo
       c.before.before.before.before.before.before.before.before.put-decimal.auto,
       c.before.before.before.put2.ensures.ends,
       c.before.before.before.put2.auto,
-      decimal-length 4 s.args.number (omega (arith, s.ranges.number.fits)),
-      decimal-length 9 s.args.place (omega (arith, s.ranges.place.fits)),
+      decimal_length 4 s.args.number (omega (arith, s.ranges.number.fits)),
+      decimal_length 9 s.args.place (omega (arith, s.ranges.place.fits)),
     )
 
 slice-aggregate-put-3 : tie.Need-slice-aggregate-put-3
@@ -58,24 +58,24 @@ put-requires-3 c κs = let s = c.before.before.before.before.before.before.befor
       c.before.before.before.before.before.before.before.before.put2.auto,
       c.before.before.before.before.put-decimal2.ensures.ends,
       c.before.before.before.before.put-decimal2.auto,
-      decimal-length 4 s.args.number (omega (arith, s.ranges.number.fits)),
-      decimal-length 9 s.args.place (omega (arith, s.ranges.place.fits)),
+      decimal_length 4 s.args.number (omega (arith, s.ranges.number.fits)),
+      decimal_length 9 s.args.place (omega (arith, s.ranges.place.fits)),
     )
 
 same_length : tie.Need-same-length
 same_length c = search rules
 
 returns : tie.Need-returns
-unfolding refusal-line
+unfolding refusal_line
 returns c = let s = c.before.before.before.before.before.before.before.before.before.before.before.before.before.before.before.before.before.before.before.before.before.before.before.before in
-    let dn = decimal-length 4 s.args.number (omega (arith, s.ranges.number.fits)) in
-    let dp = decimal-length 9 s.args.place (omega (arith, s.ranges.place.fits)) in
+    let dn = decimal_length 4 s.args.number (omega (arith, s.ranges.number.fits)) in
+    let dp = decimal_length 9 s.args.place (omega (arith, s.ranges.place.fits)) in
     let m = decimal s.args.number in
     let p = decimal s.args.place in
-    let n₁ = length-append refused-word m in
-    let n₂ = length-append (refused-word ++ m) (32 ∷ []) in
-    let n₃ = length-append (refused-word ++ m ++ (32 ∷ [])) p in
-    wrote-more (wrote-more (wrote-more (wrote-more c.before.before.before.before.before.before.before.before.before.before.before.before.before.before.before.before.before.before.before.before.put.ensures c.before.before.before.before.before.before.before.before.before.before.before.before.before.before.before.before.put-decimal.ensures (omega (arith, s.requires))) c.before.before.before.before.before.before.before.before.before.before.before.put2.ensures (omega (arith, s.requires)))
+    let n₁ = length-append refused_word m in
+    let n₂ = length-append (refused_word ++ m) (32 ∷ []) in
+    let n₃ = length-append (refused_word ++ m ++ (32 ∷ [])) p in
+    wrote_more (wrote_more (wrote_more (wrote_more c.before.before.before.before.before.before.before.before.before.before.before.before.before.before.before.before.before.before.before.before.put.ensures c.before.before.before.before.before.before.before.before.before.before.before.before.before.before.before.before.put-decimal.ensures (omega (arith, s.requires))) c.before.before.before.before.before.before.before.before.before.before.before.put2.ensures (omega (arith, s.requires)))
     c.before.before.before.before.before.before.before.put-decimal2.ensures (omega (arith, s.requires))) c.before.before.put3.ensures (omega (arith, s.requires))
 
 pub put-refusal-spec : {M : Type 1} → statement M

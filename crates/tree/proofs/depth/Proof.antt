@@ -3,19 +3,19 @@ use mathlib.Core.Path.{◌≡◌, sym, ap, ◌∙◌}
 use Prim.Native.Nat.{ℕ}
 use lib.Count.{leading_le}
 use Rattle.attester.specs.Depth.{bit_length}
-use Rattle.attester.proofs.DepthLaws.{bit-length-leading-zeros, depth-of-tree}
-use Rattle.tree.specs.Depth.{Depth-of}
+use Rattle.attester.proofs.DepthLaws.{bit_length_leading_zeros, depth_of_tree}
+use Rattle.tree.specs.Depth.{DepthOf}
 use Rattle.tree.proofs.depth.Statement.{statement}
 use Rattle.tree.proofs.depth.Tie as tie
 
-depth-of : (n r : ℕ) → r ≡ bit_length n → Depth-of n r
-depth-of n r e = record { bits = e; levels = λ keys m. depth-of-tree keys ∙ (ap bit_length m ∙ sym e) }
+depth-of : (n r : ℕ) → r ≡ bit_length n → DepthOf n r
+depth-of n r e = record { bits = e; levels = λ keys m. depth_of_tree keys ∙ (ap bit_length m ∙ sym e) }
 
 sub-result : tie.Need-overflow-sub-result
 sub-result c = leading_le 32 c.args.n
 
 returns : tie.Need-returns
-returns c = depth-of c.args.n _ (bit-length-leading-zeros 32 c.args.n c.ranges.n.fits)
+returns c = depth-of c.args.n _ (bit_length_leading_zeros 32 c.args.n c.ranges.n.fits)
 
 pub depth-spec : {M : Type 1} → statement M
 depth-spec = tie.close (tie.spec sub-result returns)

@@ -2,7 +2,7 @@
 use mathlib.Core.Path.{sym, ◌∙◌}
 use native.Mathlib.Omega.{arith}
 use borrow.Author.Tests.{not-true, not-false}
-use Rattle.tree.proofs.DigestLaws.{digested-unknown, digested-size, digested-refused, digested-done}
+use Rattle.tree.proofs.DigestLaws.{digested_unknown, digested_size, digested_refused, digested_done}
 use borrow.Author.Rules.{rules}
 use Rattle.tree.proofs.digest.Statement.{statement}
 use Rattle.tree.proofs.digest.Tie as tie
@@ -13,13 +13,13 @@ known-requires c κs = search rules
 returns : tie.Need-returns
 returns c =
     let a = c.before.before.before.before.args in
-    digested-unknown a.profile a.keys.now a.out.now (sym c.before.known.ensures ∙ not-true _ c.if1.true)
+    digested_unknown a.profile a.keys.now a.out.now (sym c.before.known.ensures ∙ not-true _ c.if1.true)
 
 returns-2 : tie.Need-returns-2
 returns-2 c =
     let found = c.before.before in
     let a = found.before.before.before.args in
-    digested-size a.profile (sym found.known.ensures ∙ not-false _ c.before.if1.false) a.keys.now a.out.now (λ e. omega arith)
+    digested_size a.profile (sym found.known.ensures ∙ not-false _ c.before.if1.false) a.keys.now a.out.now (λ e. omega arith)
 
 admit-requires : tie.Need-admit-requires
 admit-requires c κs = search rules
@@ -35,7 +35,7 @@ returns-3 c =
     let admitted = c.before.before in
     let found = admitted.before.before.before in
     let a = found.before.before.before.args in
-    digested-refused a.profile (sym found.known.ensures ∙ not-false _ admitted.before.before.if1.false) a.keys.now a.out.now admitted.admit.result (omega arith) admitted.admit.ensures c.enum_told.given.1
+    digested_refused a.profile (sym found.known.ensures ∙ not-false _ admitted.before.before.if1.false) a.keys.now a.out.now admitted.admit.result (omega arith) admitted.admit.ensures c.enum_told.given.1
 
 label-requires : tie.Need-label-requires
 label-requires c κs = search rules
@@ -57,7 +57,7 @@ returns-4 c =
     let admitted = done.before.before in
     let found = admitted.before.before.before in
     let a = found.before.before.before.args in
-    digested-done a.profile (sym found.known.ensures ∙ not-false _ admitted.before.before.if1.false) a.keys.now a.out.now admitted.admit.result (omega arith) admitted.admit.ensures
+    digested_done a.profile (sym found.known.ensures ∙ not-false _ admitted.before.before.if1.false) a.keys.now a.out.now admitted.admit.result (omega arith) admitted.admit.ensures
     done.a.given.1 labelled.label.ensures wrote.put.ensures
 
 pub digest-spec : {M : Type 1} → statement M

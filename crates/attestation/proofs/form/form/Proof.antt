@@ -1,6 +1,6 @@
 -- A section's refusal is the form's; and where each section was read, the form is whole or octets are left.
 use native.Mathlib.Omega.{arith}
-use Rattle.attestation.proofs.FormLaws.{keys-refused, keys-count, keys-inside, left-refused, left-inside, right-refused, right-inside, siblings-refused, form-left-over, form-whole}
+use Rattle.attestation.proofs.FormLaws.{keys_refused, keys_count, keys_inside, left_refused, left_inside, right_refused, right_inside, siblings_refused, form_left_over, form_whole}
 use borrow.Author.Rules.{rules}
 use Rattle.attestation.proofs.form.form.Statement.{statement}
 use Rattle.attestation.proofs.form.form.Tie as tie
@@ -17,7 +17,7 @@ enum_told c = search rules
 returns : tie.Need-returns
 returns c =
     let k = c.before.before in
-    keys-refused k.before.before.args.att.now k.keys-end.ensures c.enum_told.given.1
+    keys_refused k.before.before.args.att.now k.keys-end.ensures c.enum_told.given.1
 
 cast-optional-end : tie.Need-overflow-cast-optional-end
 cast-optional-end c = search rules
@@ -25,7 +25,7 @@ cast-optional-end c = search rules
 optional-end-requires : tie.Need-optional-end-requires
 optional-end-requires c κs =
     let k = c.before.before.before in
-    let h = keys-inside k.before.before.args.att.now k.keys-end.ensures c.before.k.given.1 in
+    let h = keys_inside k.before.before.args.att.now k.keys-end.ensures c.before.k.given.1 in
     (h.1, omega arith)
 
 enum-known-l : tie.Need-enum-known-l
@@ -38,7 +38,7 @@ returns-2 : tie.Need-returns-2
 returns-2 c =
     let l = c.before.before in
     let k = l.before.before.before.before in
-    left-refused k.before.before.args.att.now k.keys-end.ensures l.before.before.k.given.1 l.optional-end.ensures c.enum-told2.given.1
+    left_refused k.before.before.args.att.now k.keys-end.ensures l.before.before.k.given.1 l.optional-end.ensures c.enum-told2.given.1
 
 cast-optional-end-2 : tie.Need-overflow-cast-optional-end-2
 cast-optional-end-2 c = search rules
@@ -47,7 +47,7 @@ optional-end-requires-2 : tie.Need-optional-end-requires-2
 optional-end-requires-2 c κs =
     let l = c.before.before.before in
     let k = l.before.before.before.before in
-    let h = left-inside k.before.before.args.att.now k.keys-end.ensures l.before.before.k.given.1 l.optional-end.ensures c.before.l.given.1 in
+    let h = left_inside k.before.before.args.att.now k.keys-end.ensures l.before.before.k.given.1 l.optional-end.ensures c.before.l.given.1 in
     (h.0, omega arith)
 
 enum-known-r : tie.Need-enum-known-r
@@ -61,7 +61,7 @@ returns-3 c =
     let r = c.before.before in
     let l = r.before.before.before.before in
     let k = l.before.before.before.before in
-    right-refused k.before.before.args.att.now k.keys-end.ensures l.before.before.k.given.1 l.optional-end.ensures r.before.before.l.given.1
+    right_refused k.before.before.args.att.now k.keys-end.ensures l.before.before.k.given.1 l.optional-end.ensures r.before.before.l.given.1
     r.optional-end2.ensures c.enum-told3.given.1
 
 cast-siblings-end : tie.Need-overflow-cast-siblings-end
@@ -70,7 +70,7 @@ cast-siblings-end c = search rules
 shared-slice-read-siblings-end : tie.Need-shared-slice-read-siblings-end
 shared-slice-read-siblings-end c =
     let k = c.before.before.before.before.before.before.before.before.before.before.before.before in
-    let h = keys-inside k.before.before.args.att.now k.keys-end.ensures c.before.before.before.before.before.before.before.before.before.before.k.given.1 in
+    let h = keys_inside k.before.before.args.att.now k.keys-end.ensures c.before.before.before.before.before.before.before.before.before.before.k.given.1 in
     omega arith
 
 cast-siblings-end-2 : tie.Need-overflow-cast-siblings-end-2
@@ -79,15 +79,15 @@ cast-siblings-end-2 c = omega (arith, c.shared-slice-known2.given 0)
 sub-siblings-end : tie.Need-overflow-sub-siblings-end
 sub-siblings-end c =
     let k = c.before.before.before.before.before.before.before.before.before.before.before.before in
-    (keys-count k.before.before.args.att.now k.keys-end.ensures c.before.before.before.before.before.before.before.before.before.before.k.given.1).0
+    (keys_count k.before.before.args.att.now k.keys-end.ensures c.before.before.before.before.before.before.before.before.before.before.k.given.1).0
 
 siblings-end-requires : tie.Need-siblings-end-requires
 siblings-end-requires c κs =
     let r = c.before.before.before.before in
     let l = r.before.before.before.before in
     let k = l.before.before.before.before in
-    let n = keys-count k.before.before.args.att.now k.keys-end.ensures l.before.before.k.given.1 in
-    let h = right-inside k.before.before.args.att.now k.keys-end.ensures l.before.before.k.given.1 l.optional-end.ensures r.before.before.l.given.1
+    let n = keys_count k.before.before.args.att.now k.keys-end.ensures l.before.before.k.given.1 in
+    let h = right_inside k.before.before.args.att.now k.keys-end.ensures l.before.before.k.given.1 l.optional-end.ensures r.before.before.l.given.1
     r.optional-end2.ensures c.before.before.r.given.1 in
     (h.0, omega arith)
 
@@ -103,7 +103,7 @@ returns-4 c =
     let r = s.before.before.before.before.before in
     let l = r.before.before.before.before in
     let k = l.before.before.before.before in
-    siblings-refused k.before.before.args.att.now k.keys-end.ensures l.before.before.k.given.1 l.optional-end.ensures r.before.before.l.given.1
+    siblings_refused k.before.before.args.att.now k.keys-end.ensures l.before.before.k.given.1 l.optional-end.ensures r.before.before.l.given.1
     r.optional-end2.ensures s.before.before.before.r.given.1 s.siblings-end.ensures c.enum-told4.given.1
 
 cast-if1 : tie.Need-overflow-cast-if1
@@ -115,7 +115,7 @@ returns-5 c =
     let r = s.before.before.before.before.before in
     let l = r.before.before.before.before in
     let k = l.before.before.before.before in
-    form-left-over k.before.before.args.att.now k.keys-end.ensures l.before.before.k.given.1 l.optional-end.ensures r.before.before.l.given.1
+    form_left_over k.before.before.args.att.now k.keys-end.ensures l.before.before.k.given.1 l.optional-end.ensures r.before.before.l.given.1
     r.optional-end2.ensures s.before.before.before.r.given.1 s.siblings-end.ensures c.before.before.s.given.1 c.if1.true
 
 returns-6 : tie.Need-returns-6
@@ -124,7 +124,7 @@ returns-6 c =
     let r = s.before.before.before.before.before in
     let l = r.before.before.before.before in
     let k = l.before.before.before.before in
-    form-whole k.before.before.args.att.now k.keys-end.ensures l.before.before.k.given.1 l.optional-end.ensures r.before.before.l.given.1
+    form_whole k.before.before.args.att.now k.keys-end.ensures l.before.before.k.given.1 l.optional-end.ensures r.before.before.l.given.1
     r.optional-end2.ensures s.before.before.before.r.given.1 s.siblings-end.ensures c.before.before.s.given.1 c.if1.false
 
 pub form-spec : {M : Type 1} → statement M

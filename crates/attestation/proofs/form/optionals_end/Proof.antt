@@ -7,8 +7,8 @@ use lib.ListN.{length, drop}
 use Rattle.attester.specs.Reader.{many}
 use Rattle.attester.specs.Form.{optional}
 use Rattle.attestation.specs.Form.{read_answer}
-use Rattle.attestation.proofs.ReadLaws.{answer-stopped}
-use Rattle.attestation.proofs.OptionalLaws.{optional-done, optional-near, labels-none, labels-stop, labels_next}
+use Rattle.attestation.proofs.ReadLaws.{answer_stopped}
+use Rattle.attestation.proofs.OptionalLaws.{optional_done, optional_near, labels_none, labels_stop, labels_next}
 use Rattle.attestation.proofs.form.optionals_end.Statement.{statement}
 use Rattle.attestation.proofs.form.optionals_end.Tie as tie
 
@@ -37,8 +37,8 @@ returns : tie.Need-returns invariant-loop decreases-loop
 returns c =
     let l = c.before.before.before.before.loop in
     let a = c.before.before.before.before.before.before.args.att.now in
-    answer-stopped (length a) (optional (drop l.end a)) c.before.before.optional-end.ensures (many optional l.left (drop l.end a))
-    (labels-stop a l.end l.left (omega arith)) c.enum_told.given.1
+    answer_stopped (length a) (optional (drop l.end a)) c.before.before.optional-end.ensures (many optional l.left (drop l.end a))
+    (labels_stop a l.end l.left (omega arith)) c.enum_told.given.1
     ∙ sym l.invariant.2
 
 cast-end : tie.Need-overflow-cast-end invariant-loop decreases-loop
@@ -54,8 +54,8 @@ loop-again : tie.Need-loop-preserved invariant-loop decreases-loop
 loop-again c =
     let l = c.before.before.before.before.before.loop in
     let a = c.before.before.before.before.before.before.before.args.att.now in
-    let o = optional-done a l.end (omega arith) c.before.before.before.optional-end.ensures c.before.e.given.1 in
-    (o.inside, omega (arith, optional-near a l.end o), l.invariant.2 ∙ labels_next a l.end l.left (omega arith) o)
+    let o = optional_done a l.end (omega arith) c.before.before.before.optional-end.ensures c.before.e.given.1 in
+    (o.inside, omega (arith, optional_near a l.end o), l.invariant.2 ∙ labels_next a l.end l.left (omega arith) o)
 
 cast-t9 : tie.Need-overflow-cast-t9 invariant-loop decreases-loop
 cast-t9 c = omega arith
@@ -63,7 +63,7 @@ cast-t9 c = omega arith
 returns-2 : tie.Need-returns-2 invariant-loop decreases-loop
 returns-2 c =
     let l = c.before.loop in
-    labels-none c.before.before.before.args.att.now l.end l.left (omega arith) (omega arith) ∙ sym l.invariant.2
+    labels_none c.before.before.before.args.att.now l.end l.left (omega arith) (omega arith) ∙ sym l.invariant.2
 
 pub optionals-end-spec : {M : Type 1} → statement M
 optionals-end-spec =

@@ -2,7 +2,7 @@
 use Prim.Native.Nat.{suc}
 use native.Mathlib.Omega.{arith}
 use mathlib.Core.Path.{sym, ap}
-use Rattle.attestation.proofs.IssueLaws.{bare, path-low, on-keyed, height-here, height-on}
+use Rattle.attestation.proofs.IssueLaws.{bare, path_low, on_keyed, height_here, height_on}
 use lib.ListN.{length}
 use Prim.Native.Nat.{ℕ, ◌<◌}
 use borrow.Fn.Kinds.{In}
@@ -34,27 +34,27 @@ levels-returns : (t : ℕ) → levels-lts.Need-returns (rs t) (levels-at t) leve
 levels-returns t c =
     let s = c.before.before.before.before in
     let on = c.before.onward in
-    λ H. ap suc (sym (height-here s.args.x.now s.args.keys.now s.requires.1 on.result.now on.ensures H c.if1.true))
+    λ H. ap suc (sym (height_here s.args.x.now s.args.keys.now s.requires.1 on.result.now on.ensures H c.if1.true))
 
 levels-levels-requires : (t : ℕ) → levels-lts.Need-levels-requires (rs t) (levels-at t) levels.Post
 levels-levels-requires t c κs =
     let s = c.before.before.before.before in
     let on = c.before.onward in
-    let k = on-keyed s.args.x.now s.args.keys.now s.requires.1 on.result.now on.ensures c.if1.false in
+    let k = on_keyed s.args.x.now s.args.keys.now s.requires.1 on.result.now on.ensures c.if1.false in
     (omega (arith, s.requires.0, k.1), k.0)
 
 levels-add-result : (t : ℕ) → levels-lts.Need-overflow-add-result (rs t) (levels-at t) levels.Post
 levels-add-result t c =
     let s = c.before.before.before.before.before in
     let on = c.before.before.onward in
-    let k = on-keyed s.args.x.now s.args.keys.now s.requires.1 on.result.now on.ensures c.before.if1.false in
-    omega (arith, c.levels.ensures bare, path-low s.args.x.now on.result.now k.0 bare)
+    let k = on_keyed s.args.x.now s.args.keys.now s.requires.1 on.result.now on.ensures c.before.if1.false in
+    omega (arith, c.levels.ensures bare, path_low s.args.x.now on.result.now k.0 bare)
 
 levels-returns-2 : (t : ℕ) → levels-lts.Need-returns-2 (rs t) (levels-at t) levels.Post
 levels-returns-2 t c =
     let s = c.before.before.before.before.before in
     let on = c.before.before.onward in
-    λ H. omega (arith, c.levels.ensures H, height-on s.args.x.now s.args.keys.now s.requires.1 on.result.now on.ensures H c.before.if1.false)
+    λ H. omega (arith, c.levels.ensures H, height_on s.args.x.now s.args.keys.now s.requires.1 on.result.now on.ensures H c.before.if1.false)
 
 pub +levels-spec : {M : Type 1} → statement M
 +levels-spec = close μ-levels λ t. levels-lts.spec (rs t)

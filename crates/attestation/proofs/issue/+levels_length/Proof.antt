@@ -1,6 +1,6 @@
 -- What a level adds, and what the path where the search goes on takes. The number of octets falls.
 use native.Mathlib.Omega.{arith}
-use Rattle.attestation.proofs.IssueLaws.{bare, child-bit, path-short, on-keyed, levels-length-here, levels-length-on}
+use Rattle.attestation.proofs.IssueLaws.{bare, child_bit, path_short, on_keyed, levels_length_here, levels_length_on}
 use lib.ListN.{length}
 use Prim.Native.Nat.{ℕ, ◌<◌}
 use borrow.Fn.Kinds.{In}
@@ -51,19 +51,19 @@ levels-length-child-bit-requires-2 : (t : ℕ) → levels-length-lts.Need-child-
 levels-length-child-bit-requires-2 t c κs = tt
 
 levels-length-add-result : (t : ℕ) → levels-length-lts.Need-overflow-add-result (rs t) (levels-length-at t) levels-length.Post
-levels-length-add-result t c = omega (arith, c.child-bit2.ensures.1, c.before.before.child-bit.ensures.1)
+levels-length-add-result t c = omega (arith, c.child-bit2.ensures.1, c.before.before.child_bit.ensures.1)
 
 levels-length-mul-result : (t : ℕ) → levels-length-lts.Need-overflow-mul-result (rs t) (levels-length-at t) levels-length.Post
-levels-length-mul-result t c = omega (arith, c.child-bit2.ensures.1, c.before.before.child-bit.ensures.1)
+levels-length-mul-result t c = omega (arith, c.child-bit2.ensures.1, c.before.before.child_bit.ensures.1)
 
 levels-length-add-result-2 : (t : ℕ) → levels-length-lts.Need-overflow-add-result-2 (rs t) (levels-length-at t) levels-length.Post
-levels-length-add-result-2 t c = omega (arith, c.child-bit2.ensures.1, c.before.before.child-bit.ensures.1)
+levels-length-add-result-2 t c = omega (arith, c.child-bit2.ensures.1, c.before.before.child_bit.ensures.1)
 
 levels-length-returns : (t : ℕ) → levels-length-lts.Need-returns (rs t) (levels-length-at t) levels-length.Post
 levels-length-returns t c =
     let s = c.before.before.before.before.before.before.before.before in
     let on = c.before.before.before.before.before.onward in
-    λ H. levels-length-here s.args.x.now s.args.keys.now s.requires.1 on.result.now on.ensures H c.before.before.before.before.if1.true c.before.before.before.before2.ensures c.before.after.ensures (c.before.before.child-bit.ensures.0 H) (c.child-bit2.ensures.0 H)
+    λ H. levels_length_here s.args.x.now s.args.keys.now s.requires.1 on.result.now on.ensures H c.before.before.before.before.if1.true c.before.before.before.before2.ensures c.before.after.ensures (c.before.before.child_bit.ensures.0 H) (c.child-bit2.ensures.0 H)
 
 levels-length-aside-requires : (t : ℕ) → levels-length-lts.Need-aside-requires (rs t) (levels-length-at t) levels-length.Post
 levels-length-aside-requires t c κs = c.before.before.before.before.requires.1
@@ -81,21 +81,21 @@ levels-length-levels-length-requires : (t : ℕ) → levels-length-lts.Need-leve
 levels-length-levels-length-requires t c κs =
     let s = c.before.before.before.before.before.before in
     let on = c.before.before.before.onward in
-    let k = on-keyed s.args.x.now s.args.keys.now s.requires.1 on.result.now on.ensures c.before.before.if1.false in
+    let k = on_keyed s.args.x.now s.args.keys.now s.requires.1 on.result.now on.ensures c.before.before.if1.false in
     (omega (arith, s.requires.0, k.1), k.0)
 
 levels-length-add-result-4 : (t : ℕ) → levels-length-lts.Need-overflow-add-result-4 (rs t) (levels-length-at t) levels-length.Post
 levels-length-add-result-4 t c =
     let s = c.before.before.before.before.before.before.before in
     let on = c.before.before.before.before.onward in
-    let k = on-keyed s.args.x.now s.args.keys.now s.requires.1 on.result.now on.ensures c.before.before.before.if1.false in
-    omega (arith, c.before.child-bit3.ensures.1, c.levels-length.ensures bare, path-short s.args.x.now on.result.now k.0 bare)
+    let k = on_keyed s.args.x.now s.args.keys.now s.requires.1 on.result.now on.ensures c.before.before.before.if1.false in
+    omega (arith, c.before.child-bit3.ensures.1, c.levels-length.ensures bare, path_short s.args.x.now on.result.now k.0 bare)
 
 levels-length-returns-2 : (t : ℕ) → levels-length-lts.Need-returns-2 (rs t) (levels-length-at t) levels-length.Post
 levels-length-returns-2 t c =
     let s = c.before.before.before.before.before.before.before in
     let on = c.before.before.before.before.onward in
-    λ H. levels-length-on s.args.x.now s.args.keys.now s.requires.1 on.result.now on.ensures H c.before.before.before.if1.false c.before.before.aside.ensures (c.before.child-bit3.ensures.0 H) (c.levels-length.ensures H)
+    λ H. levels_length_on s.args.x.now s.args.keys.now s.requires.1 on.result.now on.ensures H c.before.before.before.if1.false c.before.before.aside.ensures (c.before.child-bit3.ensures.0 H) (c.levels-length.ensures H)
 
 pub +levels-length-spec : {M : Type 1} → statement M
 +levels-length-spec = close μ-levels-length λ t. levels-length-lts.spec (rs t)

@@ -1,8 +1,8 @@
 -- The keys of the path where the search goes on, and after them the middle key. The number of octets falls.
 use native.Mathlib.Omega.{arith}
 use mathlib.Core.Path.{sym, ap, ◌∙◌}
-use Rattle.attestation.proofs.JoinLaws.{wrote-same, room-first, room-second, wrote-both}
-use Rattle.attestation.proofs.IssueLaws.{bare, on-keyed, keys-here, keys_on}
+use Rattle.attestation.proofs.JoinLaws.{wrote_same, room_first, room_second, wrote_both}
+use Rattle.attestation.proofs.IssueLaws.{bare, on_keyed, keys_here, keys_on}
 use lib.ListN.{length}
 use Prim.Native.Nat.{ℕ, ◌<◌}
 use borrow.Fn.Kinds.{In}
@@ -40,7 +40,7 @@ put-keys-put-requires : (t : ℕ) → put-keys-lts.Need-put-requires (rs t) (put
 put-keys-put-requires t c κs =
     let s = c.before.before.before.before.before.before.before in
     let on = c.before.before.before.onward in
-    omega (arith, s.requires.1.1 bare, ap length (keys-here s.args.x.now s.args.keys.now s.requires.1.0 on.result.now on.ensures bare c.before.before.if1.true), ap length c.middle.ensures)
+    omega (arith, s.requires.1.1 bare, ap length (keys_here s.args.x.now s.args.keys.now s.requires.1.0 on.result.now on.ensures bare c.before.before.if1.true), ap length c.middle.ensures)
 
 put-keys-same-length : (t : ℕ) → put-keys-lts.Need-same-length (rs t) (put-keys-at t) put-keys.Post
 put-keys-same-length t c = c.before.before.put.auto.0
@@ -49,14 +49,14 @@ put-keys-returns : (t : ℕ) → put-keys-lts.Need-returns (rs t) (put-keys-at t
 put-keys-returns t c =
     let s = c.before.before.before.before.before.before.before.before.before.before in
     let on = c.before.before.before.before.before.before.onward in
-    λ H. wrote-same (keys-here s.args.x.now s.args.keys.now s.requires.1.0 on.result.now on.ensures H c.before.before.before.before.before.if1.true ∙ sym c.before.before.before.middle.ensures) c.before.before.put.ensures
+    λ H. wrote_same (keys_here s.args.x.now s.args.keys.now s.requires.1.0 on.result.now on.ensures H c.before.before.before.before.before.if1.true ∙ sym c.before.before.before.middle.ensures) c.before.before.put.ensures
 
 put-keys-put-keys-requires : (t : ℕ) → put-keys-lts.Need-put-keys-requires (rs t) (put-keys-at t) put-keys.Post
 put-keys-put-keys-requires t c κs =
     let s = c.before.before.before.before.before.before in
     let on = c.before.before.onward in
-    let k = on-keyed s.args.x.now s.args.keys.now s.requires.1.0 on.result.now on.ensures c.before.if1.false in
-    (omega (arith, s.requires.0, k.1), (k.0, λ H. room-first s.args.at (keys_on s.args.x.now s.args.keys.now s.requires.1.0 on.result.now on.ensures H c.before.if1.false) (s.requires.1.1 H)))
+    let k = on_keyed s.args.x.now s.args.keys.now s.requires.1.0 on.result.now on.ensures c.before.if1.false in
+    (omega (arith, s.requires.0, k.1), (k.0, λ H. room_first s.args.at (keys_on s.args.x.now s.args.keys.now s.requires.1.0 on.result.now on.ensures H c.before.if1.false) (s.requires.1.1 H)))
 
 put-keys-middle-requires-2 : (t : ℕ) → put-keys-lts.Need-middle-requires-2 (rs t) (put-keys-at t) put-keys.Post
 put-keys-middle-requires-2 t c κs = c.before.before.before.before.before.before.before.before.before.before.requires.1.0
@@ -65,7 +65,7 @@ put-keys-put-requires-2 : (t : ℕ) → put-keys-lts.Need-put-requires-2 (rs t) 
 put-keys-put-requires-2 t c κs =
     let s = c.before.before.before.before.before.before.before.before.before.before.before in
     let on = c.before.before.before.before.before.before.before.onward in
-    room-second s.args.at (keys_on s.args.x.now s.args.keys.now s.requires.1.0 on.result.now on.ensures bare c.before.before.before.before.before.before.if1.false) c.middle2.ensures (c.before.before.before.before.put-keys.ensures bare) (s.requires.1.1 bare)
+    room_second s.args.at (keys_on s.args.x.now s.args.keys.now s.requires.1.0 on.result.now on.ensures bare c.before.before.before.before.before.before.if1.false) c.middle2.ensures (c.before.before.before.before.put-keys.ensures bare) (s.requires.1.1 bare)
 
 put-keys-same-length-2 : (t : ℕ) → put-keys-lts.Need-same-length-2 (rs t) (put-keys-at t) put-keys.Post
 put-keys-same-length-2 t c = c.before.before.put2.auto.0 ∙ c.before.before.before.before.before.before.before.put-keys.auto.0
@@ -74,7 +74,7 @@ put-keys-returns-2 : (t : ℕ) → put-keys-lts.Need-returns-2 (rs t) (put-keys-
 put-keys-returns-2 t c =
     let s = c.before.before.before.before.before.before.before.before.before.before.before.before.before.before in
     let on = c.before.before.before.before.before.before.before.before.before.before.onward in
-    λ H. wrote-both s.args.at (keys_on s.args.x.now s.args.keys.now s.requires.1.0 on.result.now on.ensures H c.before.before.before.before.before.before.before.before.before.if1.false) c.before.before.before.middle2.ensures (c.before.before.before.before.before.before.before.put-keys.ensures H) c.before.before.put2.ensures (s.requires.1.1 H)
+    λ H. wrote_both s.args.at (keys_on s.args.x.now s.args.keys.now s.requires.1.0 on.result.now on.ensures H c.before.before.before.before.before.before.before.before.before.if1.false) c.before.before.before.middle2.ensures (c.before.before.before.before.before.before.before.put-keys.ensures H) c.before.before.put2.ensures (s.requires.1.1 H)
 
 pub +put-keys-spec : {M : Type 1} → statement M
 +put-keys-spec = close μ-put-keys λ t. put-keys-lts.spec (rs t)

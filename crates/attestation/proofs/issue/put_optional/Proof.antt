@@ -1,8 +1,8 @@
 -- A count, and after it the label where there are keys.
 use native.Mathlib.Omega.{arith}
 use mathlib.Core.Path.{ap}
-use Rattle.attestation.proofs.JoinLaws.{wrote-same, room-first, room-second, wrote-both}
-use Rattle.attestation.proofs.IssueLaws.{optional-none, optional-some}
+use Rattle.attestation.proofs.JoinLaws.{wrote_same, room_first, room_second, wrote_both}
+use Rattle.attestation.proofs.IssueLaws.{optional_none, optional_some}
 use lib.ListN.{length}
 use Rattle.profile.specs.Profile.{label}
 use borrow.Author.Rules.{rules}
@@ -15,13 +15,13 @@ slice-aggregate-put c = search rules
 put-requires : tie.Need-put-requires
 put-requires c κs =
     let s = c.before.before.before.before.before in
-    omega (arith, s.requires, ap length (optional-none (label s.args.profile) s.args.keys.now c.before.before.if1.true))
+    omega (arith, s.requires, ap length (optional_none (label s.args.profile) s.args.keys.now c.before.before.if1.true))
 
 same_length : tie.Need-same-length
 same_length c = search rules
 
 returns : tie.Need-returns
-returns c = wrote-same (optional-none (label c.before.before.before.before.before.before.before.before.args.profile) c.before.before.before.before.before.before.before.before.args.keys.now c.before.before.before.before.before.if1.true) c.before.before.put.ensures
+returns c = wrote_same (optional_none (label c.before.before.before.before.before.before.before.before.args.profile) c.before.before.before.before.before.before.before.before.args.keys.now c.before.before.before.before.before.if1.true) c.before.before.put.ensures
 
 slice-aggregate-put-2 : tie.Need-slice-aggregate-put-2
 slice-aggregate-put-2 c = search rules
@@ -29,7 +29,7 @@ slice-aggregate-put-2 c = search rules
 put-requires-2 : tie.Need-put-requires-2
 put-requires-2 c κs =
     let s = c.before.before.before.before.before in
-    room-first s.args.at (optional-some (label s.args.profile) s.args.keys.now c.before.before.if1.false) s.requires
+    room_first s.args.at (optional_some (label s.args.profile) s.args.keys.now c.before.before.if1.false) s.requires
 
 label-requires : tie.Need-label-requires
 label-requires c κs = search rules
@@ -40,7 +40,7 @@ slice-aggregate-put-3 c = search rules
 put-requires-3 : tie.Need-put-requires-3
 put-requires-3 c κs =
     let s = c.before.before.before.before.before.before.before.before.before.before.before in
-    room-second s.args.at (optional-some (label s.args.profile) s.args.keys.now c.before.before.before.before.before.before.before.before.if1.false) c.before.before.label.ensures c.before.before.before.before.before.put2.ensures s.requires
+    room_second s.args.at (optional_some (label s.args.profile) s.args.keys.now c.before.before.before.before.before.before.before.before.if1.false) c.before.before.label.ensures c.before.before.before.before.before.put2.ensures s.requires
 
 same-length-2 : tie.Need-same-length-2
 same-length-2 c = search rules
@@ -48,7 +48,7 @@ same-length-2 c = search rules
 returns-2 : tie.Need-returns-2
 returns-2 c =
     let s = c.before.before.before.before.before.before.before.before.before.before.before.before.before.before in
-    wrote-both s.args.at (optional-some (label s.args.profile) s.args.keys.now c.before.before.before.before.before.before.before.before.before.before.before.if1.false) c.before.before.before.before.before.label.ensures c.before.before.before.before.before.before.before.before.put2.ensures c.before.before.put3.ensures s.requires
+    wrote_both s.args.at (optional_some (label s.args.profile) s.args.keys.now c.before.before.before.before.before.before.before.before.before.before.before.if1.false) c.before.before.before.before.before.label.ensures c.before.before.before.before.before.before.before.before.put2.ensures c.before.before.put3.ensures s.requires
 
 pub put-optional-spec : {M : Type 1} → statement M
 put-optional-spec =

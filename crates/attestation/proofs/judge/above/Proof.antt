@@ -2,7 +2,7 @@
 use mathlib.Core.Path.{sym, ap, ◌∙◌}
 use mathlib.Core.Logic.{inl, inr}
 use Rattle.octets.specs.Compared.{order_of}
-use Rattle.attestation.proofs.JudgeLaws.{above-left, above-right}
+use Rattle.attestation.proofs.JudgeLaws.{above_left, above_right}
 use borrow.Author.Rules.{rules}
 use Rattle.attestation.proofs.judge.above.Statement.{statement}
 use Rattle.attestation.proofs.judge.above.Tie as tie
@@ -55,19 +55,19 @@ node-record-requires-3 c κs = search rules
 returns : tie.Need-returns
 returns c =
     let s = c.before.before.before.before.before.before.before.before.before.before.before.before in
-    above-left s.args.x.now s.args.att.now s.args.k.now s.args.at s.args.label.now s.requires.2 c.before.before.before.before.before.before.child.ensures
+    above_left s.args.x.now s.args.att.now s.args.k.now s.args.at s.args.label.now s.requires.2 c.before.before.before.before.before.before.child.ensures
     (inl (sym c.before.before.before.before.before.compare.ensures ∙ ap order_of c.before.before.before.enum_told.given.1)) c.before.before.flag.ensures c.node-record.ensures
 
 returns-2 : tie.Need-returns-2
 returns-2 c =
     let s = c.before.before.before.before.before.before.before.before.before.before.before.before in
-    above-left s.args.x.now s.args.att.now s.args.k.now s.args.at s.args.label.now s.requires.2 c.before.before.before.before.before.before.child.ensures
+    above_left s.args.x.now s.args.att.now s.args.k.now s.args.at s.args.label.now s.requires.2 c.before.before.before.before.before.before.child.ensures
     (inr (sym c.before.before.before.before.before.compare.ensures ∙ ap order_of c.before.before.before.enum-told2.given.1)) c.before.before.flag2.ensures c.node-record2.ensures
 
 returns-3 : tie.Need-returns-3
 returns-3 c =
     let s = c.before.before.before.before.before.before.before.before.before.before.before.before in
-    above-right s.args.x.now s.args.att.now s.args.k.now s.args.at s.args.label.now s.requires.2 c.before.before.before.before.before.before.child.ensures
+    above_right s.args.x.now s.args.att.now s.args.k.now s.args.at s.args.label.now s.requires.2 c.before.before.before.before.before.before.child.ensures
     (sym c.before.before.before.before.before.compare.ensures ∙ ap order_of c.before.before.before.enum-told3.given.1) c.before.before.flag3.ensures c.node-record3.ensures
 
 pub above-spec : {M : Type 1} → statement M

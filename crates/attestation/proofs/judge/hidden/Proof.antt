@@ -3,7 +3,7 @@ use mathlib.Core.Path.{sym, ap, ◌∙◌}
 use Rattle.octets.specs.Compared.{order_of}
 use native.Mathlib.Omega.{arith}
 use Rattle.attestation.proofs.ShownLaws.{laid, right_is}
-use Rattle.attestation.proofs.JudgeLaws.{hidden-less, hidden-equal, hidden-greater}
+use Rattle.attestation.proofs.JudgeLaws.{hidden_less, hidden_equal, hidden_greater}
 use borrow.Author.Rules.{rules}
 use Rattle.attestation.proofs.judge.hidden.Statement.{statement}
 use Rattle.attestation.proofs.judge.hidden.Tie as tie
@@ -38,17 +38,17 @@ shared-slice-read-result-2 c = omega (arith, right_is c.before.before.before.bef
 returns : tie.Need-returns
 returns c =
     let s = c.before.before.before.before.before.before.before.before.before in
-    hidden-less s.args.x.now s.args.att.now s.requires c.before.before.before.before.key.ensures (sym c.before.before.before.compare.ensures ∙ ap order_of c.before.enum_told.given.1) c.before.before.before.before.before.before.left.ensures
+    hidden_less s.args.x.now s.args.att.now s.requires c.before.before.before.before.key.ensures (sym c.before.before.before.compare.ensures ∙ ap order_of c.before.enum_told.given.1) c.before.before.before.before.before.before.left.ensures
 
 returns-2 : tie.Need-returns-2
 returns-2 c =
     let s = c.before.before.before.before.before.before.before.before in
-    hidden-equal s.args.x.now s.args.att.now s.requires c.before.before.before.key.ensures (sym c.before.before.compare.ensures ∙ ap order_of c.enum-told2.given.1)
+    hidden_equal s.args.x.now s.args.att.now s.requires c.before.before.before.key.ensures (sym c.before.before.compare.ensures ∙ ap order_of c.enum-told2.given.1)
 
 returns-3 : tie.Need-returns-3
 returns-3 c =
     let s = c.before.before.before.before.before.before.before.before.before in
-    hidden-greater s.args.x.now s.args.att.now s.requires c.before.before.before.before.key.ensures (sym c.before.before.before.compare.ensures ∙ ap order_of c.before.enum-told3.given.1) (right_is s.args.att.now c.before.before.before.before.before.before.left.ensures c.before.before.before.before.before.behind.ensures)
+    hidden_greater s.args.x.now s.args.att.now s.requires c.before.before.before.before.key.ensures (sym c.before.before.before.compare.ensures ∙ ap order_of c.before.enum-told3.given.1) (right_is s.args.att.now c.before.before.before.before.before.before.left.ensures c.before.before.before.before.before.behind.ensures)
 
 pub hidden-spec : {M : Type 1} → statement M
 hidden-spec =

@@ -6,8 +6,8 @@ use Prim.Native.Nat.{◌+◌, ◌-◌, ◌≤◌}
 use native.Mathlib.Omega.{arith}
 use Rattle.profile.specs.Profile.{label}
 use borrow.Author.Rules.{rules}
-use Rattle.attestation.proofs.ShownLaws.{laid, key-length}
-use Rattle.attestation.proofs.JudgeLaws.{Risen, risen-start, risen-inside, risen-next, risen-end}
+use Rattle.attestation.proofs.ShownLaws.{laid, key_length}
+use Rattle.attestation.proofs.JudgeLaws.{Risen, risen_start, risen_inside, risen_next, risen_end}
 use Rattle.attestation.proofs.judge.record.Statement.{statement}
 use Rattle.attestation.proofs.judge.record.Tie as tie
 
@@ -36,7 +36,7 @@ foot-record-requires : tie.Need-foot-record-requires invariant-loop decreases-lo
 foot-record-requires c κs = c.before.before.before.before.requires.0
 
 loop-holds : tie.Need-loop-init invariant-loop decreases-loop
-loop-holds c = let s = c.before.before.before.before.before in (omega arith, search rules, risen-start (label s.args.profile) s.args.x.now s.args.att.now s.requires.0 c.before.siblings.ensures c.foot-record.ensures)
+loop-holds c = let s = c.before.before.before.before.before in (omega arith, search rules, risen_start (label s.args.profile) s.args.x.now s.args.att.now s.requires.0 c.before.siblings.ensures c.foot-record.ensures)
 
 add-j : tie.Need-overflow-add-j invariant-loop decreases-loop
 add-j c = let s = c.before.before.before.before.before.before.before in omega (arith, (laid s.args.att.now s.requires.0).few-keys)
@@ -57,14 +57,14 @@ above-requires : tie.Need-above-requires invariant-loop decreases-loop
 above-requires c κs =
     let s = c.before.before.before.before.before.before.before.before.before.before.before in
     let l = c.before.before.before.before.before.loop in
-    let h = risen-inside (label s.args.profile) s.args.x.now s.args.att.now l.j l.at l.r l.invariant.2 (omega (arith, c.before.before.before.before.loop-test.true)) in
-    (h.inside, h.ends, rw c.before.key.ensures (key-length s.args.att.now (l.j + 1) (omega (arith, (laid s.args.att.now s.requires.0).keys_in))), search rules)
+    let h = risen_inside (label s.args.profile) s.args.x.now s.args.att.now l.j l.at l.r l.invariant.2 (omega (arith, c.before.before.before.before.loop-test.true)) in
+    (h.inside, h.ends, rw c.before.key.ensures (key_length s.args.att.now (l.j + 1) (omega (arith, (laid s.args.att.now s.requires.0).keys_in))), search rules)
 
 behind-requires : tie.Need-behind-requires invariant-loop decreases-loop
 behind-requires c κs =
     let s = c.before.before.before.before.before.before.before.before.before.before.before.before in
     let l = c.before.before.before.before.before.before.loop in
-    (risen-inside (label s.args.profile) s.args.x.now s.args.att.now l.j l.at l.r l.invariant.2 (omega (arith, c.before.before.before.before.before.loop-test.true))).inside
+    (risen_inside (label s.args.profile) s.args.x.now s.args.att.now l.j l.at l.r l.invariant.2 (omega (arith, c.before.before.before.before.before.loop-test.true))).inside
 
 loop-less : tie.Need-loop-smaller invariant-loop decreases-loop
 loop-less c = omega arith
@@ -73,13 +73,13 @@ loop-again : tie.Need-loop-preserved invariant-loop decreases-loop
 loop-again c =
     let s = c.before.before.before.before.before.before.before.before.before.before.before.before.before in
     let l = c.before.before.before.before.before.before.before.loop in
-    (omega arith, search rules, risen-next (label s.args.profile) s.args.x.now s.args.att.now l.j l.at l.r l.invariant.2 (omega (arith, c.before.before.before.before.before.before.loop-test.true)) c.before.before.before.key.ensures c.before.before.before.before.label.ensures c.before.above.ensures c.behind.ensures)
+    (omega arith, search rules, risen_next (label s.args.profile) s.args.x.now s.args.att.now l.j l.at l.r l.invariant.2 (omega (arith, c.before.before.before.before.before.before.loop-test.true)) c.before.before.before.key.ensures c.before.before.before.before.label.ensures c.before.above.ensures c.behind.ensures)
 
 returns : tie.Need-returns invariant-loop decreases-loop
 returns c =
     let s = c.before.before.before.before.before.before.before in
     let l = c.before.loop in
-    risen-end (label s.args.profile) s.args.x.now s.args.att.now l.j l.at l.r l.invariant.2 s.args.below (omega (arith, c.loop-test.false))
+    risen_end (label s.args.profile) s.args.x.now s.args.att.now l.j l.at l.r l.invariant.2 s.args.below (omega (arith, c.loop-test.false))
 
 pub record-spec : {M : Type 1} → statement M
 record-spec =

@@ -2,7 +2,7 @@
 use Prim.Native.Nat.{◌+◌, ◌-◌, ◌*◌, ◌/◌}
 use native.Mathlib.Omega.{arith}
 use lib.ListN.{length, drop, length-drop}
-use Rattle.attestation.specs.Parts.{middle-at}
+use Rattle.attestation.specs.Parts.{middle_at}
 use lib.Seq.{take_all}
 use borrow.Author.Rules.{rules}
 use Rattle.attestation.proofs.parts.after.Statement.{statement}
@@ -24,7 +24,7 @@ part-result-end : tie.Need-slice-bounds-result-end
 part-result-end c = search rules
 
 returns : tie.Need-returns
-unfolding middle-at
+unfolding middle_at
 returns c = let s = c.before.args.keys.now in take_all (length s - (20 * (length s / 20 / 2) + 20)) (drop (20 * (length s / 20 / 2) + 20) s) (simp length-drop (omega arith))
 
 pub after-spec : {M : Type 1} → statement M

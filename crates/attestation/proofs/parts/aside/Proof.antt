@@ -1,7 +1,7 @@
 -- The three cases of the comparison with the middle key.
 use mathlib.Core.Path.{◌∙◌}
 use Rattle.octets.specs.declared.Order.TheVariants.{Less, Equal, Greater}
-use Rattle.attestation.proofs.PartsLaws.{aside-is}
+use Rattle.attestation.proofs.PartsLaws.{aside_is}
 use borrow.Author.Rules.{rules}
 use Rattle.attestation.proofs.parts.aside.Statement.{statement}
 use Rattle.attestation.proofs.parts.aside.Tie as tie
@@ -33,17 +33,17 @@ before-requires c κs = search rules
 returns : tie.Need-returns
 returns c =
     let s = c.before.before.before.before.before.before.before in
-    c.after.ensures ∙ aside-is s.args.x.now s.args.keys.now Less c.before.enum_told.given.1 c.before.before.before.compare.ensures c.before.before.before.before.middle.ensures
+    c.after.ensures ∙ aside_is s.args.x.now s.args.keys.now Less c.before.enum_told.given.1 c.before.before.before.compare.ensures c.before.before.before.before.middle.ensures
 
 returns-2 : tie.Need-returns-2
 returns-2 c =
     let s = c.before.before.before.before.before.before.before in
-    aside-is s.args.x.now s.args.keys.now Equal c.before.enum-told2.given.1 c.before.before.before.compare.ensures c.before.before.before.before.middle.ensures
+    aside_is s.args.x.now s.args.keys.now Equal c.before.enum-told2.given.1 c.before.before.before.compare.ensures c.before.before.before.before.middle.ensures
 
 returns-3 : tie.Need-returns-3
 returns-3 c =
     let s = c.before.before.before.before.before.before.before in
-    c.before2.ensures ∙ aside-is s.args.x.now s.args.keys.now Greater c.before.enum-told3.given.1 c.before.before.before.compare.ensures c.before.before.before.before.middle.ensures
+    c.before2.ensures ∙ aside_is s.args.x.now s.args.keys.now Greater c.before.enum-told3.given.1 c.before.before.before.compare.ensures c.before.before.before.before.middle.ensures
 
 pub aside-spec : {M : Type 1} → statement M
 aside-spec =

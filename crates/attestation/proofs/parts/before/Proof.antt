@@ -2,7 +2,7 @@
 use native.Mathlib.Omega.{arith}
 use mathlib.Core.Path.{refl}
 use lib.ListN.{length-take}
-use Rattle.attestation.specs.Parts.{middle-at}
+use Rattle.attestation.specs.Parts.{middle_at}
 use borrow.Author.Rules.{rules}
 use Rattle.attestation.proofs.parts.before.Statement.{statement}
 use Rattle.attestation.proofs.parts.before.Tie as tie
@@ -14,7 +14,7 @@ slice-aggregate-result : tie.Need-slice-aggregate-result
 slice-aggregate-result c = simp length-take (omega arith)
 
 returns : tie.Need-returns
-unfolding middle-at
+unfolding middle_at
 returns c = refl
 
 pub before-spec : {M : Type 1} → statement M

@@ -3,7 +3,7 @@ use Prim.Native.Nat.{◌+◌, ◌-◌, ◌*◌, ◌/◌}
 use native.Mathlib.Omega.{arith}
 use mathlib.Core.Path.{◌≡◌}
 use lib.ListN.{length}
-use Rattle.attestation.specs.Parts.{middle-at}
+use Rattle.attestation.specs.Parts.{middle_at}
 use borrow.Author.Rules.{rules}
 use Rattle.attestation.proofs.parts.middle.Statement.{statement}
 use Rattle.attestation.proofs.parts.middle.Tie as tie
@@ -24,7 +24,7 @@ part-result-end : tie.Need-slice-bounds-result-end
 part-result-end c = search rules
 
 returns : tie.Need-returns
-unfolding middle-at
+unfolding middle_at
 returns c = let m = 20 * (length c.before.args.keys.now / 20 / 2) in let w : m + 20 - m ≡ 20 = omega arith in rw w
 
 pub middle-spec : {M : Type 1} → statement M

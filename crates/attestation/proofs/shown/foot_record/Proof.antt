@@ -1,7 +1,7 @@
 -- The foot's two labels stand inside the octets, and its key before them.
 use native.Mathlib.Omega.{arith}
 use mathlib.Core.Path.{refl}
-use Rattle.attestation.proofs.ShownLaws.{laid, right_is, count-is, key-length, foot-recorded}
+use Rattle.attestation.proofs.ShownLaws.{laid, right_is, count_is, key_length, foot_recorded}
 use borrow.Author.Rules.{rules}
 use Rattle.attestation.proofs.shown.foot_record.Statement.{statement}
 use Rattle.attestation.proofs.shown.foot_record.Tie as tie
@@ -31,16 +31,16 @@ key-requires : tie.Need-key-requires
 key-requires c κs = omega (arith, (laid c.before.before.before.before.before.before.before.before.args.att.now c.before.before.before.before.before.before.before.before.requires).keys_in, (laid c.before.before.before.before.before.before.before.before.args.att.now c.before.before.before.before.before.before.before.before.requires).some_key)
 
 child-requires-2 : tie.Need-child-requires-2
-child-requires-2 c κs = (omega (arith, right_is c.before.before.before.before.before.before.before.before.before.args.att.now c.before.before.before.before.before.before.before.left.ensures c.before.before.before.before.before.before.behind.ensures, (laid c.before.before.before.before.before.before.before.before.before.args.att.now c.before.before.before.before.before.before.before.before.before.requires).right-in), omega (arith, count-is c.before.before.before.before.before.before.before.before.before.args.att.now c.before.before.before.before.before.before.before.left.ensures c.before.before.before.before.before.before.behind.ensures refl, (laid c.before.before.before.before.before.before.before.before.before.args.att.now c.before.before.before.before.before.before.before.before.before.requires).count-in))
+child-requires-2 c κs = (omega (arith, right_is c.before.before.before.before.before.before.before.before.before.args.att.now c.before.before.before.before.before.before.before.left.ensures c.before.before.before.before.before.before.behind.ensures, (laid c.before.before.before.before.before.before.before.before.before.args.att.now c.before.before.before.before.before.before.before.before.before.requires).right-in), omega (arith, count_is c.before.before.before.before.before.before.before.before.before.args.att.now c.before.before.before.before.before.before.before.left.ensures c.before.before.before.before.before.before.behind.ensures refl, (laid c.before.before.before.before.before.before.before.before.before.args.att.now c.before.before.before.before.before.before.before.before.before.requires).count-in))
 
 slice-aggregate-node-record-2 : tie.Need-slice-aggregate-node-record-2
 slice-aggregate-node-record-2 c = search rules
 
 node-record-requires : tie.Need-node-record-requires
-node-record-requires c κs = (search rules, rw c.before.before.key.ensures (key-length c.before.before.before.before.before.before.before.before.before.before.before.args.att.now 0 (omega (arith, (laid c.before.before.before.before.before.before.before.before.before.before.before.args.att.now c.before.before.before.before.before.before.before.before.before.before.before.requires).keys_in, (laid c.before.before.before.before.before.before.before.before.before.before.before.args.att.now c.before.before.before.before.before.before.before.before.before.before.before.requires).some_key))), search rules)
+node-record-requires c κs = (search rules, rw c.before.before.key.ensures (key_length c.before.before.before.before.before.before.before.before.before.before.before.args.att.now 0 (omega (arith, (laid c.before.before.before.before.before.before.before.before.before.before.before.args.att.now c.before.before.before.before.before.before.before.before.before.before.before.requires).keys_in, (laid c.before.before.before.before.before.before.before.before.before.before.before.args.att.now c.before.before.before.before.before.before.before.before.before.before.before.requires).some_key))), search rules)
 
 returns : tie.Need-returns
-returns c = foot-recorded c.before.before.before.before.before.before.before.before.before.before.before.before.args.att.now c.before.before.before.before.before.before.before.before.before.before.left.ensures c.before.before.before.before.before.before.before.before.before.behind.ensures c.before.before.before.before.before.before.flag.ensures c.before.before.before.before.before.child.ensures c.before.before.before.key.ensures c.before.before.child2.ensures c.node-record.ensures
+returns c = foot_recorded c.before.before.before.before.before.before.before.before.before.before.before.before.args.att.now c.before.before.before.before.before.before.before.before.before.before.left.ensures c.before.before.before.before.before.before.before.before.before.behind.ensures c.before.before.before.before.before.before.flag.ensures c.before.before.before.before.before.child.ensures c.before.before.before.key.ensures c.before.before.child2.ensures c.node-record.ensures
 
 pub foot-record-spec : {M : Type 1} → statement M
 foot-record-spec =

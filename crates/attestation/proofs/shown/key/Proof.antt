@@ -1,5 +1,5 @@
 -- The slice that the code takes is kj.
-use Rattle.attestation.proofs.ShownLaws.{key-part}
+use Rattle.attestation.proofs.ShownLaws.{key_part}
 use borrow.Author.Rules.{rules}
 use Rattle.attestation.proofs.shown.key.Statement.{statement}
 use Rattle.attestation.proofs.shown.key.Tie as tie
@@ -26,7 +26,7 @@ part-result-end : tie.Need-slice-bounds-result-end
 part-result-end c = search rules
 
 returns : tie.Need-returns
-returns c = key-part c.before.args.att.now c.before.args.j
+returns c = key_part c.before.args.att.now c.before.args.j
 
 pub key_spec : {M : Type 1} → statement M
 key_spec =

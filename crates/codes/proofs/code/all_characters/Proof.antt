@@ -6,7 +6,7 @@ use lib.ListN.{length, drop}
 use borrow.Author.Rules.{rules}
 use borrow.Author.Tests.{not-true, not-false}
 use Rattle.codes.specs.Code.{all, character}
-use Rattle.codes.proofs.CodeLaws.{all-stop, all_more, all_end}
+use Rattle.codes.proofs.CodeLaws.{all_stop, all_more, all_end}
 use Rattle.codes.proofs.code.all_characters.Statement.{statement}
 use Rattle.codes.proofs.code.all_characters.Tie as tie
 
@@ -27,7 +27,7 @@ is-character-requires c κs = search rules
 
 returns : tie.Need-returns invariant-loop decreases-loop
 returns c = let l = c.before.before.before.before in
-    all-stop character l.before.before.args.s.now l.loop.i l.loop.invariant.1 (omega arith) (sym c.before.is-character.ensures ∙ not-true _ c.if1.true)
+    all_stop character l.before.before.args.s.now l.loop.i l.loop.invariant.1 (omega arith) (sym c.before.is-character.ensures ∙ not-true _ c.if1.true)
 
 add-i : tie.Need-overflow-add-i invariant-loop decreases-loop
 add-i c = omega arith

@@ -5,7 +5,7 @@ use native.Mathlib.Omega.{arith}
 use lib.ListN.{length, drop}
 use borrow.Author.Rules.{rules}
 use Rattle.codes.specs.Code.{apart}
-use Rattle.codes.proofs.CodeLaws.{apart-stop, apart_more, apart-end}
+use Rattle.codes.proofs.CodeLaws.{apart_stop, apart_more, apart_end}
 use Rattle.codes.proofs.code.hyphens_apart.Statement.{statement}
 use Rattle.codes.proofs.code.hyphens_apart.Tie as tie
 
@@ -32,7 +32,7 @@ both-hyphens-requires c κs = search rules
 
 returns : tie.Need-returns invariant-loop decreases-loop
 returns c = let l = c.before.before.before.before.before in
-    apart-stop l.before.before.args.s.now l.loop.i (omega arith) l.loop.invariant.2 (omega arith) (sym c.before.both-hyphens.ensures ∙ c.if1.true)
+    apart_stop l.before.before.args.s.now l.loop.i (omega arith) l.loop.invariant.2 (omega arith) (sym c.before.both-hyphens.ensures ∙ c.if1.true)
 
 add-i : tie.Need-overflow-add-i invariant-loop decreases-loop
 add-i c = omega arith
@@ -46,7 +46,7 @@ loop-again c = let l = c.before.before.before.before.before in
 
 returns-2 : tie.Need-returns-2 invariant-loop decreases-loop
 returns-2 c = let l = c.before in
-    apart-end l.before.before.args.s.now l.loop.i (omega arith) l.loop.invariant.2 (omega arith)
+    apart_end l.before.before.args.s.now l.loop.i (omega arith) l.loop.invariant.2 (omega arith)
 
 pub hyphens-apart-spec : {M : Type 1} → statement M
 hyphens-apart-spec =

@@ -2,7 +2,7 @@
 use mathlib.Core.Path.{sym, ◌∙◌}
 use native.Mathlib.Omega.{arith}
 use Rattle.codes.specs.Code.{hyphen}
-use Rattle.codes.proofs.CodeLaws.{is-code-sized, is-code-empty, is-code-long}
+use Rattle.codes.proofs.CodeLaws.{is_code_sized, is_code_empty, is_code_long}
 use borrow.Author.Tests.{eq-eqb, ne_eqb, not-true, not-false}
 use Prim.Native.Nat.{◌-◌}
 use lib.ListN.{length, get_or}
@@ -11,16 +11,16 @@ use Rattle.codes.proofs.code.is_code.Statement.{statement}
 use Rattle.codes.proofs.code.is_code.Tie as tie
 
 returns : tie.Need-returns
-returns c = is-code-empty c.before.before.args.s.now c.if1.true
+returns c = is_code_empty c.before.before.args.s.now c.if1.true
 
 returns-2 : tie.Need-returns-2
-returns-2 c = is-code-long c.before.before.before.args.s.now c.before.if1.false c.if2.true
+returns-2 c = is_code_long c.before.before.before.args.s.now c.before.if1.false c.if2.true
 
 all-characters-requires : tie.Need-all-characters-requires
 all-characters-requires c κs = search rules
 
 returns-3 : tie.Need-returns-3
-returns-3 c = rw (is-code-sized c.before.before.before.before.before.args.s.now (omega arith) (omega arith), sym c.before.all-characters.ensures ∙ not-true _ c.if3.true)
+returns-3 c = rw (is_code_sized c.before.before.before.before.before.args.s.now (omega arith) (omega arith), sym c.before.all-characters.ensures ∙ not-true _ c.if3.true)
 
 shared-slice-read-if4 : tie.Need-shared-slice-read-if4
 shared-slice-read-if4 c = search rules
@@ -28,7 +28,7 @@ shared-slice-read-if4 c = search rules
 returns-4 : tie.Need-returns-4
 unfolding hyphen
 returns-4 c = let s = c.before.before.before.before.before.before.before.args.s.now in
-    rw (is-code-sized s (omega arith) (omega arith), sym c.before.before.before.all-characters.ensures ∙ not-false _ c.before.before.if3.false, eq-eqb (get_or s 0 0) 45 c.if4.true)
+    rw (is_code_sized s (omega arith) (omega arith), sym c.before.before.before.all-characters.ensures ∙ not-false _ c.before.before.if3.false, eq-eqb (get_or s 0 0) 45 c.if4.true)
 
 shared-slice-read-if5 : tie.Need-shared-slice-read-if5
 shared-slice-read-if5 c = search rules
@@ -36,7 +36,7 @@ shared-slice-read-if5 c = search rules
 returns-5 : tie.Need-returns-5
 unfolding hyphen
 returns-5 c = let s = c.before.before.before.before.before.before.before.before.before.args.s.now in
-    rw (is-code-sized s (omega arith) (omega arith), sym c.before.before.before.before.before.all-characters.ensures ∙ not-false _ c.before.before.before.before.if3.false, ne_eqb (get_or s 0 0) 45 c.before.before.if4.false, eq-eqb (get_or s (length s - 1) 0) 45 c.if5.true)
+    rw (is_code_sized s (omega arith) (omega arith), sym c.before.before.before.before.before.all-characters.ensures ∙ not-false _ c.before.before.before.before.if3.false, ne_eqb (get_or s 0 0) 45 c.before.before.if4.false, eq-eqb (get_or s (length s - 1) 0) 45 c.if5.true)
 
 hyphens-apart-requires : tie.Need-hyphens-apart-requires
 hyphens-apart-requires c κs = search rules
@@ -44,7 +44,7 @@ hyphens-apart-requires c κs = search rules
 returns-6 : tie.Need-returns-6
 unfolding hyphen
 returns-6 c = let s = c.before.before.before.before.before.before.before.before.before.before.args.s.now in
-    rw (is-code-sized s (omega arith) (omega arith), sym c.before.before.before.before.before.before.all-characters.ensures ∙ not-false _ c.before.before.before.before.before.if3.false, ne_eqb (get_or s 0 0) 45 c.before.before.before.if4.false, ne_eqb (get_or s (length s - 1) 0) 45 c.before.if5.false, c.hyphens-apart.ensures)
+    rw (is_code_sized s (omega arith) (omega arith), sym c.before.before.before.before.before.before.all-characters.ensures ∙ not-false _ c.before.before.before.before.before.if3.false, ne_eqb (get_or s 0 0) 45 c.before.before.before.if4.false, ne_eqb (get_or s (length s - 1) 0) 45 c.before.if5.false, c.hyphens-apart.ensures)
 
 pub is-code-spec : {M : Type 1} → statement M
 is-code-spec =

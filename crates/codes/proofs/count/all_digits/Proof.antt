@@ -6,7 +6,7 @@ use lib.ListN.{length, drop}
 use borrow.Author.Rules.{rules}
 use borrow.Author.Tests.{not-true, not-false}
 use Rattle.codes.specs.Code.{all, digit}
-use Rattle.codes.proofs.CodeLaws.{all-stop, all_more, all_end}
+use Rattle.codes.proofs.CodeLaws.{all_stop, all_more, all_end}
 use Rattle.codes.proofs.count.all_digits.Statement.{statement}
 use Rattle.codes.proofs.count.all_digits.Tie as tie
 
@@ -27,7 +27,7 @@ is-digit-requires c κs = search rules
 
 returns : tie.Need-returns invariant-loop decreases-loop
 returns c = let l = c.before.before.before.before in
-    all-stop digit l.before.before.args.s.now l.loop.i l.loop.invariant.1 (omega arith) (sym c.before.is_digit.ensures ∙ not-true _ c.if1.true)
+    all_stop digit l.before.before.args.s.now l.loop.i l.loop.invariant.1 (omega arith) (sym c.before.is_digit.ensures ∙ not-true _ c.if1.true)
 
 add-i : tie.Need-overflow-add-i invariant-loop decreases-loop
 add-i c = omega arith

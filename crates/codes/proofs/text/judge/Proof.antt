@@ -5,7 +5,7 @@ use borrow.Author.Tests.{not-true, not-false, lt-ltb, le-ltb}
 use lib.ListN.{length}
 use Rattle.codes.specs.Text.{reading}
 use Rattle.codes.specs.Read.{answer}
-use Rattle.codes.proofs.TextLaws.{opens-length}
+use Rattle.codes.proofs.TextLaws.{opens_length}
 use Rattle.codes.proofs.text.judge.Statement.{statement}
 use Rattle.codes.proofs.text.judge.Tie as tie
 
@@ -21,7 +21,7 @@ unfolding reading answer
 returns-2 c = rw (le-ltb 65535 (length c.before.before.before.before.args.text.now) c.before.before.if1.false, sym c.before.opens.ensures ∙ not-true _ c.if2.true)
 
 judge-second-line-requires : tie.Need-judge-second-line-requires
-judge-second-line-requires c κs = opens-length c.before.before.before.before.args.text.now (sym c.before.opens.ensures ∙ not-false _ c.if2.false)
+judge-second-line-requires c κs = opens_length c.before.before.before.before.args.text.now (sym c.before.opens.ensures ∙ not-false _ c.if2.false)
 
 returns-3 : tie.Need-returns-3
 unfolding reading answer

@@ -4,7 +4,7 @@ use native.Mathlib.Omega.{arith}
 use borrow.Author.Rules.{rules}
 use borrow.Author.Tests.{not-true, not-false}
 use Rattle.codes.specs.Read.{answer}
-use Rattle.codes.proofs.TextLaws.{second-line-unended, second-line-no-count, second-line-counted}
+use Rattle.codes.proofs.TextLaws.{second_line_unended, second_line_no_count, second_line_counted}
 use Rattle.codes.proofs.text.judge_second_line.Statement.{statement}
 use Rattle.codes.proofs.text.judge_second_line.Tie as tie
 
@@ -14,7 +14,7 @@ line-end-requires c κs = omega arith
 returns : tie.Need-returns
 unfolding answer
 returns c = let a = c.before.before.before.args in
-    sym (ap answer (second-line-unended a.text.now a.room c.before.line-end.result c.before.line-end.ensures.0 (omega arith) c.if1.true))
+    sym (ap answer (second_line_unended a.text.now a.room c.before.line-end.result c.before.line-end.ensures.0 (omega arith) c.if1.true))
 
 sub-is-count : tie.Need-overflow-sub-is-count
 sub-is-count c = omega arith
@@ -31,7 +31,7 @@ is-count-requires c κs = search rules
 returns-2 : tie.Need-returns-2
 unfolding answer
 returns-2 c = let a = c.before.before.before.before.before.before.args in
-    sym (ap answer (second-line-no-count a.text.now a.room c.before.before.before.before.line-end.result c.before.before.before.before.line-end.ensures.0 (omega arith) (sym c.before.is-count.ensures ∙ not-true _ c.if2.true)))
+    sym (ap answer (second_line_no_count a.text.now a.room c.before.before.before.before.line-end.result c.before.before.before.before.line-end.ensures.0 (omega arith) (sym c.before.is-count.ensures ∙ not-true _ c.if2.true)))
 
 sub_number : tie.Need-overflow-sub-number
 sub_number c = omega arith
@@ -54,7 +54,7 @@ judge-counted-requires c κs = omega arith
 returns-3 : tie.Need-returns-3
 unfolding answer
 returns-3 c = let a = c.before.before.before.before.before.before.before.before.before.args in
-    c.judge-counted.ensures ∙ sym (ap answer (second-line-counted a.text.now a.room c.before.before.before.before.before.before.before.line-end.result c.before.before.before.before.before.before.before.line-end.ensures.0 (omega (arith, c.before.before.before.before.before.before)) c.before.number.result (sym c.before.before.before.before.is-count.ensures ∙ not-false _ c.before.before.before.if2.false) c.before.number.ensures.0))
+    c.judge-counted.ensures ∙ sym (ap answer (second_line_counted a.text.now a.room c.before.before.before.before.before.before.before.line-end.result c.before.before.before.before.before.before.before.line-end.ensures.0 (omega (arith, c.before.before.before.before.before.before)) c.before.number.result (sym c.before.before.before.before.is-count.ensures ∙ not-false _ c.before.before.before.if2.false) c.before.number.ensures.0))
 
 pub judge-second-line-spec : {M : Type 1} → statement M
 judge-second-line-spec =

@@ -1,6 +1,6 @@
 -- Each list is one key, so what is handed to the extractor is what the definition hands it, and its answer decides.
 use mathlib.Core.Path.{refl}
-use Rattle.contradiction.proofs.HandedLaws.{handed-found, handed-refused}
+use Rattle.contradiction.proofs.HandedLaws.{handed_found, handed_refused}
 use borrow.Author.Rules.{rules}
 use Rattle.contradiction.proofs.handing.hand_over.Statement.{statement}
 use Rattle.contradiction.proofs.handing.hand_over.Tie as tie
@@ -70,7 +70,7 @@ returns c =
     let digested = absent.before.before.before.before in
     let numbered = digested.before.before in
     let s = numbered.before.before.before.before in
-    handed-found s.args.listed.now s.requires.0 s.args.n s.args.out1.now s.args.out2.now s.requires.1 s.requires.2 numbered.key.ensures
+    handed_found s.args.listed.now s.requires.0 s.args.n s.args.out1.now s.args.out2.now s.requires.1 s.requires.2 numbered.key.ensures
     refl digested.digest2.ensures refl absent.attest.ensures refl present.attest2.ensures extracted.extract.ensures c.enum_told.given.1
 
 same-length-3 : tie.Need-same-length-3
@@ -87,7 +87,7 @@ returns-2 c =
     let digested = absent.before.before.before.before in
     let numbered = digested.before.before in
     let s = numbered.before.before.before.before in
-    handed-refused s.args.listed.now s.requires.0 s.args.n s.args.out1.now s.args.out2.now s.requires.1 s.requires.2 numbered.key.ensures
+    handed_refused s.args.listed.now s.requires.0 s.args.n s.args.out1.now s.args.out2.now s.requires.1 s.requires.2 numbered.key.ensures
     refl digested.digest2.ensures refl absent.attest.ensures refl present.attest2.ensures extracted.extract.ensures c.before.a.given.1
 
 pub hand-over-spec : {M : Type 1} → statement M

@@ -1,6 +1,6 @@
 -- Four stores into zeros are the number's key (`NumberLaws`).
 use native.Mathlib.Omega.{arith}
-use Rattle.contradiction.proofs.NumberLaws.{key-stored}
+use Rattle.contradiction.proofs.NumberLaws.{key_stored}
 use borrow.Author.Rules.{rules}
 use Rattle.contradiction.proofs.number.key.Statement.{statement}
 use Rattle.contradiction.proofs.number.key.Tie as tie
@@ -30,7 +30,7 @@ array-write-k-4 : tie.Need-array-write-k-4
 array-write-k-4 c = search rules
 
 returns : tie.Need-returns
-returns c = key-stored c.args.n (omega arith)
+returns c = key_stored c.args.n (omega arith)
 
 pub key_spec : {M : Type 1} → statement M
 key_spec =

@@ -1,5 +1,5 @@
 -- The label of the number's octets is the digest of the list of that one key.
-use Rattle.contradiction.proofs.TrialLaws.{number-label}
+use Rattle.contradiction.proofs.TrialLaws.{number_label}
 use borrow.Author.Rules.{rules}
 use Rattle.contradiction.proofs.trial.alike.Statement.{statement}
 use Rattle.contradiction.proofs.trial.alike.Tie as tie
@@ -20,7 +20,7 @@ same-requires : tie.Need-same-requires
 same-requires c κs = search rules
 
 returns : tie.Need-returns
-returns c = let n = c.before.before.before.before.before.before.args.n in cc (number-label n)
+returns c = let n = c.before.before.before.before.before.before.args.n in cc (number_label n)
 
 pub alike_spec : {M : Type 1} → statement M
 alike_spec =

@@ -1,7 +1,7 @@
 -- Each end of the test is a case of the definition.
 use mathlib.Core.Path.{sym, ◌∙◌}
 use native.Mathlib.Numerals.{add-one}
-use Rattle.contradiction.proofs.TrialLaws.{unlisted-next, unlisted-stays}
+use Rattle.contradiction.proofs.TrialLaws.{unlisted_next, unlisted_stays}
 use borrow.Author.Rules.{rules}
 use Rattle.contradiction.proofs.trial.unlisted.Statement.{statement}
 use Rattle.contradiction.proofs.trial.unlisted.Tie as tie
@@ -22,10 +22,10 @@ add-result : tie.Need-overflow-add-result
 add-result c = search rules
 
 returns : tie.Need-returns
-returns c = let a = c.before.before.before.before.before.args in add-one _ ∙ sym (unlisted-next a.listed.now a.n (cc))
+returns c = let a = c.before.before.before.before.before.args in add-one _ ∙ sym (unlisted_next a.listed.now a.n (cc))
 
 returns-2 : tie.Need-returns-2
-returns-2 c = let a = c.before.before.before.before.before.args in sym (unlisted-stays a.listed.now a.n (cc))
+returns-2 c = let a = c.before.before.before.before.before.args in sym (unlisted_stays a.listed.now a.n (cc))
 
 pub unlisted-spec : {M : Type 1} → statement M
 unlisted-spec =

@@ -4,8 +4,8 @@ use native.Mathlib.Omega.{arith}
 use Prim.Native.Nat.{ℕ}
 use lib.ListN.{replicate, length-replicate}
 use lib.Seq.{length-take-le}
-use Rattle.show.proofs.RefusalLaws.{refusal-length}
-use Rattle.digest.proofs.LineLaws.{read_fits, line_refused, line-accepted, accepted-length}
+use Rattle.show.proofs.RefusalLaws.{refusal_length}
+use Rattle.digest.proofs.LineLaws.{read_fits, line_refused, line_accepted, accepted_length}
 use borrow.Author.Rules.{rules}
 use Rattle.digest.proofs.line.digest_line.Statement.{statement}
 use Rattle.digest.proofs.line.digest_line.Tie as tie
@@ -58,7 +58,7 @@ returns c =
     let p = c.before.before.before.before.before.a.given.0.1.0 in
     let f = c.before.before.before.before.known-told.given in
     let t = line_refused c.before.before.before.before.before.before.before.before.before.before.before.before.args.text.now (replicate {A = ℕ} 60000 0) (length-replicate {A = ℕ} 60000 0) m p _ r in
-    (rw (← t) c.before.before.put-refusal.ensures, omega (arith, c.before.before.put-refusal.ensures.ends, refusal-length m p (omega arith) (omega arith)))
+    (rw (← t) c.before.before.put-refusal.ensures, omega (arith, c.before.before.put-refusal.ensures.ends, refusal_length m p (omega arith) (omega arith)))
 
 same-length-2 : tie.Need-same-length-2
 same-length-2 c = search rules
@@ -69,8 +69,8 @@ returns-2 c =
     let n = c.before.before.before.before.before.before.before.before.before.before.a2.given.0.0 in
     let f = c.before.before.before.before.before.before.before.before.before.known-told2.given in
     let d = c.before.before.before.before.before.before.digest.new.1.1.0 in
-    let t = line-accepted c.before.before.before.before.before.before.before.before.before.before.before.before.before.before.before.before.before.args.text.now (replicate {A = ℕ} 60000 0) (length-replicate {A = ℕ} 60000 0) n _ (replicate {A = ℕ} 32 0) _ d r refl c.before.before.before.before.before.before.digest.ensures in
-    (rw (← t) c.before.before.put-accepted.ensures, omega (arith, c.before.before.put-accepted.ensures.ends, accepted-length n d (omega arith) (omega (arith, c.before.before.before.before.before.before.digest.auto))))
+    let t = line_accepted c.before.before.before.before.before.before.before.before.before.before.before.before.before.before.before.before.before.args.text.now (replicate {A = ℕ} 60000 0) (length-replicate {A = ℕ} 60000 0) n _ (replicate {A = ℕ} 32 0) _ d r refl c.before.before.before.before.before.before.digest.ensures in
+    (rw (← t) c.before.before.put-accepted.ensures, omega (arith, c.before.before.put-accepted.ensures.ends, accepted_length n d (omega arith) (omega (arith, c.before.before.before.before.before.before.digest.auto))))
 
 pub digest-line-spec : {M : Type 1} → statement M
 digest-line-spec =

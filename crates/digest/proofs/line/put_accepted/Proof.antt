@@ -2,12 +2,12 @@
 use native.Mathlib.Omega.{arith}
 use mathlib.Core.List.{[], ◌∷◌, ◌++◌}
 use lib.ListN.{length-append}
-use Rattle.octets.proofs.PutLaws.{wrote-more}
+use Rattle.octets.proofs.PutLaws.{wrote_more}
 use Rattle.show.specs.Decimal.{decimal}
 use Rattle.show.specs.Hex.{hex}
-use Rattle.show.proofs.DecimalLaws.{decimal-length}
-use Rattle.show.proofs.HexLaws.{hex-length}
-use Rattle.digest.specs.Line.{digest-word, accepted-line}
+use Rattle.show.proofs.DecimalLaws.{decimal_length}
+use Rattle.show.proofs.HexLaws.{hex_length}
+use Rattle.digest.specs.Line.{digest_word, accepted_line}
 use borrow.Author.Rules.{rules}
 use Rattle.digest.proofs.line.put_accepted.Statement.{statement}
 use Rattle.digest.proofs.line.put_accepted.Tie as tie
@@ -20,14 +20,14 @@ put-requires c κs = search rules
 
 put-decimal-requires : tie.Need-put-decimal-requires
 put-decimal-requires c κs = let s = c.before.before.before.before.before.before.before in
-    omega (arith, s.requires, c.before.before.before.put.ensures.ends, c.before.before.before.put.auto, decimal-length 9 s.args.n (omega (arith, s.ranges.n.fits)))
+    omega (arith, s.requires, c.before.before.before.put.ensures.ends, c.before.before.before.put.auto, decimal_length 9 s.args.n (omega (arith, s.ranges.n.fits)))
 
 slice-aggregate-put-2 : tie.Need-slice-aggregate-put-2
 slice-aggregate-put-2 c = search rules
 
 put-requires-2 : tie.Need-put-requires-2
 put-requires-2 c κs = let s = c.before.before.before.before.before.before.before.before.before.before.before.before in
-    omega (arith, s.requires, c.before.before.before.before.before.before.before.before.put.ensures.ends, c.before.before.before.before.before.before.before.before.put.auto, c.before.before.before.before.put-decimal.ensures.ends, c.before.before.before.before.put-decimal.auto, decimal-length 9 s.args.n (omega (arith, s.ranges.n.fits)))
+    omega (arith, s.requires, c.before.before.before.before.before.before.before.before.put.ensures.ends, c.before.before.before.before.before.before.before.before.put.auto, c.before.before.before.before.put-decimal.ensures.ends, c.before.before.before.before.put-decimal.auto, decimal_length 9 s.args.n (omega (arith, s.ranges.n.fits)))
 
 put-hex-requires : tie.Need-put-hex-requires
 put-hex-requires c κs = let s = c.before.before.before.before.before.before.before.before.before.before.before.before.before.before.before.before.before in
@@ -41,7 +41,7 @@ put-hex-requires c κs = let s = c.before.before.before.before.before.before.bef
       c.before.before.before.before.before.before.before.before.before.put-decimal.auto,
       c.before.before.before.before.put2.ensures.ends,
       c.before.before.before.before.put2.auto,
-      decimal-length 9 s.args.n (omega (arith, s.ranges.n.fits)),
+      decimal_length 9 s.args.n (omega (arith, s.ranges.n.fits)),
     )
 
 slice-aggregate-put-3 : tie.Need-slice-aggregate-put-3
@@ -61,24 +61,24 @@ put-requires-3 c κs = let s = c.before.before.before.before.before.before.befor
       c.before.before.before.before.before.before.before.before.before.put2.auto,
       c.before.before.before.before.put-hex.ensures.ends,
       c.before.before.before.before.put-hex.auto,
-      decimal-length 9 s.args.n (omega (arith, s.ranges.n.fits)),
-      hex-length s.args.digest.now,
+      decimal_length 9 s.args.n (omega (arith, s.ranges.n.fits)),
+      hex_length s.args.digest.now,
     )
 
 same_length : tie.Need-same-length
 same_length c = search rules
 
 returns : tie.Need-returns
-unfolding accepted-line
+unfolding accepted_line
 returns c = let s = c.before.before.before.before.before.before.before.before.before.before.before.before.before.before.before.before.before.before.before.before.before.before.before.before.before in
-    let dn = decimal-length 9 s.args.n (omega (arith, s.ranges.n.fits)) in
-    let dh = hex-length s.args.digest.now in
+    let dn = decimal_length 9 s.args.n (omega (arith, s.ranges.n.fits)) in
+    let dh = hex_length s.args.digest.now in
     let m = decimal s.args.n in
     let p = hex s.args.digest.now in
-    let n₁ = length-append digest-word m in
-    let n₂ = length-append (digest-word ++ m) (32 ∷ []) in
-    let n₃ = length-append (digest-word ++ m ++ (32 ∷ [])) p in
-    wrote-more (wrote-more (wrote-more (wrote-more c.before.before.before.before.before.before.before.before.before.before.before.before.before.before.before.before.before.before.before.before.before.put.ensures c.before.before.before.before.before.before.before.before.before.before.before.before.before.before.before.before.before.put-decimal.ensures (omega (arith, s.requires, s.well-formed))) c.before.before.before.before.before.before.before.before.before.before.before.before.put2.ensures (omega (arith, s.requires, s.well-formed)))
+    let n₁ = length-append digest_word m in
+    let n₂ = length-append (digest_word ++ m) (32 ∷ []) in
+    let n₃ = length-append (digest_word ++ m ++ (32 ∷ [])) p in
+    wrote_more (wrote_more (wrote_more (wrote_more c.before.before.before.before.before.before.before.before.before.before.before.before.before.before.before.before.before.before.before.before.before.put.ensures c.before.before.before.before.before.before.before.before.before.before.before.before.before.before.before.before.before.put-decimal.ensures (omega (arith, s.requires, s.well-formed))) c.before.before.before.before.before.before.before.before.before.before.before.before.put2.ensures (omega (arith, s.requires, s.well-formed)))
     c.before.before.before.before.before.before.before.put-hex.ensures (omega (arith, s.requires, s.well-formed))) c.before.before.put3.ensures (omega (arith, s.requires, s.well-formed))
 
 pub put-accepted-spec : {M : Type 1} → statement M

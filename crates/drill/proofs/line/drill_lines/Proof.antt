@@ -4,8 +4,8 @@ use mathlib.Core.Path.{refl}
 use mathlib.Core.List.{List}
 use Prim.Native.Nat.{ℕ}
 use lib.ListN.{replicate}
-use Rattle.show.proofs.RefusalLaws.{refusal-length}
-use Rattle.drill.proofs.LineLaws.{record-lines-length, lines-found, lines_none, lines-refused}
+use Rattle.show.proofs.RefusalLaws.{refusal_length}
+use Rattle.drill.proofs.LineLaws.{record_lines_length, lines_found, lines_none, lines_refused}
 use borrow.Author.Rules.{rules}
 use Rattle.drill.proofs.line.drill_lines.Statement.{statement}
 use Rattle.drill.proofs.line.drill_lines.Tie as tie
@@ -50,9 +50,9 @@ same_length c = search rules
 returns : tie.Need-returns
 returns c =
     let d = c.before.before.before.before.before.before.before.before.before.before in
-    let t = lines-found d.before.before.before.before.before.args.text.now zeros zeros refl refl d.drill.ensures c.before.before.before.before.before.before.enum_told.given.1 in
+    let t = lines_found d.before.before.before.before.before.args.text.now zeros zeros refl refl d.drill.ensures c.before.before.before.before.before.before.enum_told.given.1 in
     let n =
-    record-lines-length d.drill.new.1.1.0 d.drill.new.1.1.1.0 (omega (arith, d.drill.auto)) (omega (arith, d.drill.auto)) in
+    record_lines_length d.drill.new.1.1.0 d.drill.new.1.1.1.0 (omega (arith, d.drill.auto)) (omega (arith, d.drill.auto)) in
     (rw (← t) c.before.before.put-records.ensures, omega (arith, c.before.before.put-records.ensures.ends))
 
 same-length-2 : tie.Need-same-length-2
@@ -74,8 +74,8 @@ returns-3 c =
     let m = told.o.given.0.0 in
     let p = told.o.given.0.1.0 in
     let f = c.before.before.before.before.known-told.given in
-    let t = lines-refused d.before.before.before.before.before.args.text.now zeros zeros refl refl d.drill.ensures told.o.given.1 in
-    (rw (← t) c.before.before.put-refusal.ensures, omega (arith, c.before.before.put-refusal.ensures.ends, refusal-length m p (omega arith) (omega arith)))
+    let t = lines_refused d.before.before.before.before.before.args.text.now zeros zeros refl refl d.drill.ensures told.o.given.1 in
+    (rw (← t) c.before.before.put-refusal.ensures, omega (arith, c.before.before.put-refusal.ensures.ends, refusal_length m p (omega arith) (omega arith)))
 
 pub drill-lines-spec : {M : Type 1} → statement M
 drill-lines-spec =

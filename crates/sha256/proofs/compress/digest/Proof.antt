@@ -3,7 +3,7 @@ use Rattle.std.proofs.Common.{◌≡◌, ◌-◌, ◌*◌, ◌≤◌, [], ◌∷
 use Rattle.octets.proofs.PutLaws.{wrote_none}
 use Rattle.octets.specs.Put.{Wrote}
 use Rattle.sha256.specs.Fips180.{octets, digest}
-use Rattle.sha256.proofs.DigestLaws.{joint, word-written, all-written}
+use Rattle.sha256.proofs.DigestLaws.{joint, word_written, all_written}
 use Rattle.sha256.proofs.compress.digest.Statement.{statement}
 use Rattle.sha256.proofs.compress.digest.Tie as tie
 
@@ -21,7 +21,7 @@ loop-again : tie.Need-loop-preserved invariant-loop decreases-loop
 loop-again c =
     let l = c.before.before.before.before.loop in
     let w = c.before.put_word in
-    (omega arith, w.auto.0 ∙ l.invariant.1, word-written _ _ refl l.i (omega arith) l.invariant.2 w.ensures)
+    (omega arith, w.auto.0 ∙ l.invariant.1, word_written _ _ refl l.i (omega arith) l.invariant.2 w.ensures)
 
 returns : tie.Need-returns invariant-loop decreases-loop
 unfolding digest joint octets
@@ -29,7 +29,7 @@ returns c =
     let l = c.before.loop in
     let e : l.i ≡ 8 = omega arith in
     let h = c.before.before.args.h in
-    all-written (replicate 32 0) (h.a ∷ h.b ∷ h.c ∷ h.d ∷ h.e ∷ h.f ∷ h.g ∷ h.h ∷ []) refl (rw e at l.invariant.2)
+    all_written (replicate 32 0) (h.a ∷ h.b ∷ h.c ∷ h.d ∷ h.e ∷ h.f ∷ h.g ∷ h.h ∷ []) refl (rw e at l.invariant.2)
 
 pub digest-spec : {M : Type 1} → statement M
 digest-spec =

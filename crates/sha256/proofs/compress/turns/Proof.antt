@@ -2,7 +2,7 @@
 -- turns of the standard's.
 use Rattle.std.proofs.Common.{◌≡◌, ◌-◌, ◌%◌, ◌≤◌, refl, arith, rules}
 use Rattle.sha256.specs.Fips180.{turns}
-use Rattle.sha256.proofs.TurnLaws.{eight-turns}
+use Rattle.sha256.proofs.TurnLaws.{eight_turns}
 use Rattle.sha256.proofs.compress.turns.Statement.{statement}
 use Rattle.sha256.proofs.compress.turns.Tie as tie
 
@@ -30,7 +30,7 @@ loop-again c =
     let a = test.before.before in (
       omega (arith, test),
       omega (arith, test),
-      eight-turns a.args.st a.args.k.now a.args.w.now a.requires l.t l.invariant.2 c₁.turn_at.ensures c₂.turn-at2.ensures
+      eight_turns a.args.st a.args.k.now a.args.w.now a.requires l.t l.invariant.2 c₁.turn_at.ensures c₂.turn-at2.ensures
           c₃.turn-at3.ensures c₄.turn-at4.ensures c₅.turn-at5.ensures c₆.turn-at6.ensures c₇.turn-at7.ensures c.turn-at8.ensures,
     )
 

@@ -1,7 +1,7 @@
 -- The loop fills: the first t words of w are the first t words of the schedule.
 use Rattle.std.proofs.Common.{◌≡◌, ◌+◌, ◌-◌, ◌≤◌, length, take, refl, arith, length-set, rules}
 use Rattle.sha256.specs.Fips180.{schedule}
-use Rattle.sha256.proofs.ScheduleLaws.{block-word-more}
+use Rattle.sha256.proofs.ScheduleLaws.{block_word_more}
 use Rattle.sha256.proofs.schedule.block_words.Statement.{statement}
 use Rattle.sha256.proofs.schedule.block_words.Tie as tie
 
@@ -21,7 +21,7 @@ loop-again c =
     let b = c.before.before.before.before.args.b.now in (
       omega arith,
       simp length-set (omega arith),
-      block-word-more b l.t (l.t + 1) (omega arith) l.w (omega arith) l.invariant.2 (omega arith) c.word.ensures,
+      block_word_more b l.t (l.t + 1) (omega arith) l.w (omega arith) l.invariant.2 (omega arith) c.word.ensures,
     )
 
 returns : tie.Need-returns invariant-loop decreases-loop

@@ -1,7 +1,7 @@
 -- The loop fills on from 16: the first t words of w are the first t words of the schedule.
 use Rattle.std.proofs.Common.{◌≡◌, ◌+◌, ◌-◌, ◌≤◌, length, take, sym, ◌∙◌, arith, length-set, take_all, rules}
 use Rattle.sha256.specs.Fips180.{schedule}
-use Rattle.sha256.proofs.ScheduleLaws.{next-word-more}
+use Rattle.sha256.proofs.ScheduleLaws.{next_word_more}
 use Rattle.sha256.proofs.schedule.schedule.Statement.{statement}
 use Rattle.sha256.proofs.schedule.schedule.Tie as tie
 
@@ -21,7 +21,7 @@ loop-again c =
       omega arith,
       omega arith,
       simp length-set (omega arith),
-      next-word-more b l.t (l.t + 1) (omega arith) l.w (omega arith) l.invariant.3 (omega arith) c.next_word.ensures,
+      next_word_more b l.t (l.t + 1) (omega arith) l.w (omega arith) l.invariant.3 (omega arith) c.next_word.ensures,
     )
 
 returns : tie.Need-returns invariant-loop decreases-loop

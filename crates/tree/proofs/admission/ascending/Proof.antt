@@ -3,7 +3,7 @@
 use borrow.Author.Tests.{not-true, not-false}
 use Prim.Native.Nat.{◌-◌, ◌≤◌}
 use native.Mathlib.Omega.{arith}
-use Rattle.tree.proofs.AdmissionLaws.{Rising, rising-start, rising-end, rising-turn, rising-stop}
+use Rattle.tree.proofs.AdmissionLaws.{Rising, rising_start, rising_end, rising_turn, rising_stop}
 use Rattle.tree.proofs.admission.ascending.Statement.{statement}
 use Rattle.tree.proofs.admission.ascending.Tie as tie
 
@@ -14,7 +14,7 @@ abbrev decreases-loop : tie.decreases-loop
 decreases-loop keys n i₀ i = n - i
 
 loop-holds : tie.Need-loop-init invariant-loop decreases-loop
-loop-holds c = (omega arith, omega arith, rising-start c.before.args.keys.now c.before.args.n (omega arith))
+loop-holds c = (omega arith, omega arith, rising_start c.before.args.keys.now c.before.args.n (omega arith))
 
 mul_at : tie.Need-overflow-mul-at invariant-loop decreases-loop
 mul_at c = omega arith
@@ -54,7 +54,7 @@ returns c =
     let below = c.before in
     let l = below.before.before.before.before in
     let a = l.before.before.args in
-    rising-stop a.keys.now a.n l.loop.i l.loop.invariant.2 (omega arith) (omega arith)
+    rising_stop a.keys.now a.n l.loop.i l.loop.invariant.2 (omega arith) (omega arith)
     below.below.result below.below.ensures (not-true _ c.if1.true)
 
 add-i : tie.Need-overflow-add-i invariant-loop decreases-loop
@@ -70,7 +70,7 @@ loop-again c =
     let a = l.before.before.args in (
       omega arith,
       omega arith,
-      rising-turn a.keys.now a.n l.loop.i l.loop.invariant.2 (omega arith) (omega arith)
+      rising_turn a.keys.now a.n l.loop.i l.loop.invariant.2 (omega arith) (omega arith)
           below.below.result below.below.ensures (not-false _ c.if1.false),
     )
 
@@ -81,7 +81,7 @@ returns-2 : tie.Need-returns-2 invariant-loop decreases-loop
 returns-2 c =
     let l = c.before in
     let a = l.before.before.args in
-    rising-end a.keys.now a.n l.loop.i l.loop.invariant.2 c.loop-test.false
+    rising_end a.keys.now a.n l.loop.i l.loop.invariant.2 c.loop-test.false
 
 pub ascending-spec : {M : Type 1} → statement M
 ascending-spec =

@@ -3,7 +3,7 @@
 use native.Mathlib.Omega.{arith}
 use lib.ListN.{length, length-take, length-drop}
 use borrow.Author.Rules.{rules}
-use Rattle.tree.proofs.LabelLaws.{label-of-none, label-of-node}
+use Rattle.tree.proofs.LabelLaws.{label_of_none, label_of_node}
 use Rattle.profile.specs.Profile as specs
 use Prim.Native.Nat.{ℕ, ◌<◌}
 use borrow.Fn.Kinds.{In}
@@ -31,7 +31,7 @@ abbrev rs : ℕ → label-lts.Claims
 rs t = (label-below t, label.Post, flag-reads.Asked, flag-reads.Learnt, node-record-reads.Asked, node-record-reads.Learnt, label-reads.Asked, label-reads.Learnt)
 
 label-returns : (t : ℕ) → label-lts.Need-returns (rs t) (label_at t) label.Post
-label-returns t c = let a = c.before.before.args in label-of-none (specs.label a.profile) a.keys.now (omega arith)
+label-returns t c = let a = c.before.before.args in label_of_none (specs.label a.profile) a.keys.now (omega arith)
 
 label-sub-after : (t : ℕ) → label-lts.Need-overflow-sub-after (rs t) (label_at t) label.Post
 label-sub-after t c = omega arith
@@ -100,7 +100,7 @@ label-returns-2 t c =
     let right = flagged.before in
     let left = right.before.before in
     let a = left.before.before.before.before.args in
-    label-of-node (specs.label a.profile) a.keys.now (omega arith)
+    label_of_node (specs.label a.profile) a.keys.now (omega arith)
     left.label.ensures right.label2.ensures flagged.flag.ensures recorded.node-record.ensures c.label3.ensures
 
 pub +label-spec : {M : Type 1} → statement M

@@ -1,6 +1,6 @@
 -- A truth value as an octet is 0 or 1, so nothing wraps.
 use native.Mathlib.Omega.{arith}
-use Rattle.tree.proofs.LabelLaws.{one-if-most}
+use Rattle.tree.proofs.LabelLaws.{one_if_most}
 use borrow.Author.Rules.{rules}
 use Rattle.tree.proofs.labels.flag.Statement.{statement}
 use Rattle.tree.proofs.labels.flag.Tie as tie
@@ -12,10 +12,10 @@ cast-result-2 : tie.Need-overflow-cast-result-2
 cast-result-2 c = search rules
 
 mul-result : tie.Need-overflow-mul-result
-mul-result c = omega (arith, one-if-most c.args.right)
+mul-result c = omega (arith, one_if_most c.args.right)
 
 add-result : tie.Need-overflow-add-result
-add-result c = omega (arith, one-if-most c.args.left, one-if-most c.args.right)
+add-result c = omega (arith, one_if_most c.args.left, one_if_most c.args.right)
 
 returns : tie.Need-returns
 returns c = search rules

@@ -1,7 +1,7 @@
 -- Three writes, one after the other, fill what is left of the 85 octets after the first.
 use mathlib.Core.Path.{refl}
 use native.Mathlib.Omega.{arith}
-use Rattle.tree.proofs.LabelLaws.{record-written}
+use Rattle.tree.proofs.LabelLaws.{record_written}
 use borrow.Author.Rules.{rules}
 use Rattle.tree.proofs.labels.node_record.Statement.{statement}
 use Rattle.tree.proofs.labels.node_record.Tie as tie
@@ -32,7 +32,7 @@ returns c =
     let third = c.before in
     let second = third.before.before.before in
     let first = second.before.before.before in
-    record-written refl (omega arith) first.put.ensures second.put2.ensures third.put3.ensures
+    record_written refl (omega arith) first.put.ensures second.put2.ensures third.put3.ensures
 
 pub node-record-spec : {M : Type 1} → statement M
 node-record-spec =
