@@ -1,4 +1,6 @@
 // The answers that a caller can meet, and the number that stands for one where a plain number must do.
+#![tactic(auto)]
+
 ghost use Rattle.std.specs.Prelude.{◌≡◌};
 ghost use Rattle.answer.specs.Answer.{packed, verdict_packed};
 
@@ -42,7 +44,7 @@ pub const PRESENT: u64 = 65537;
 pub const ABSENT: u64 = 65536;
 
 // Done with what the function counts, or refused with the number and the place of document 01.
-#[derive(Drop)]
+#[derive(Clone, Copy)]
 pub enum Answer {
     Done(u32),
     Refused { number: u16, place: u32 },
@@ -50,7 +52,7 @@ pub enum Answer {
 
 // What an attestation shows of a key under a digest: that it is listed, that it is not, or nothing, with the number and the
 // place of document 01.
-#[derive(Drop)]
+#[derive(Clone, Copy)]
 pub enum Verdict {
     Present,
     Absent,
