@@ -1,4 +1,6 @@
 // Octet strings: their order, and writing one into a lent buffer at a running offset.
+#![tactic(auto)]
+
 ghost use Rattle.std.specs.Prelude.{◌≡◌, ◌+◌, ◌≤◌, length};
 ghost use Rattle.octets.specs.Order.{order, is_less};
 ghost use Rattle.octets.specs.Order as specs;
@@ -6,7 +8,7 @@ ghost use Rattle.octets.specs.Compared.{order_of};
 ghost use Rattle.octets.specs.Put.{Wrote};
 
 // How one octet string stands to another.
-#[derive(Drop)]
+#[derive(Clone, Copy)]
 pub enum Order {
     Less,
     Equal,
