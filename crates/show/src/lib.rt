@@ -1,4 +1,6 @@
 // Numbers and octets as text, written into a lent buffer at a running offset.
+#![tactic(auto)]
+
 ghost use Rattle.std.specs.Prelude.{◌≡◌, ◌+◌, ◌*◌, ◌≤◌, ◌<◌, length};
 ghost use Rattle.octets.specs.Put.{Wrote};
 ghost use Rattle.show.specs.Decimal.{decimal};
