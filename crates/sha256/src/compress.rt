@@ -9,7 +9,7 @@ use crate::schedule::schedule;
 use crate::words::put_word;
 
 // The working variables a to h; and a hash value, H0 to H7 in their places.
-#[derive(Drop)]
+#[derive(Clone, Copy)]
 pub struct State {
     pub a: u32,
     pub b: u32,

@@ -1,0 +1,7 @@
+-- Each rotation ensures its own ROTR; the rest is Σ0's text.
+use Rattle.sha256.specs.Fips180.{Σ0}
+use Rattle.sha256.proofs.functions.big_sigma0.Goals as goal
+
+pub returns : goal.returns
+unfolding Σ0
+returns c = rw (c.rotr.ensures, c.rotr-2.ensures, c.rotr-3.ensures)

@@ -1,0 +1,7 @@
+-- Each rotation ensures its own ROTR; the rest is σ0's text.
+use Rattle.sha256.specs.Fips180.{σ0}
+use Rattle.sha256.proofs.functions.small_sigma0.Goals as goal
+
+pub returns : goal.returns
+unfolding σ0
+returns c = rw (c.rotr.ensures, c.rotr-2.ensures)

@@ -1,0 +1,12 @@
+-- Up to 55 octets leave room for the nine more in one block; k is what is left of it.
+use Rattle.std.proofs.Common.{arith}
+use Rattle.sha256.specs.Fips180.{zeros}
+use Rattle.sha256.proofs.padding.last_count.Goals as goal
+
+pub returns-then-n-lt56 : goal.returns-then-n-lt56
+unfolding zeros
+returns-then-n-lt56 c = omega arith
+
+pub returns-else-n-lt56 : goal.returns-else-n-lt56
+unfolding zeros
+returns-else-n-lt56 c = omega arith
