@@ -97,8 +97,10 @@ module _ (H : Octets → Octets) (x : Octets) (w : ℕ) where
   found_most (suc b) (hit {l} {r} s) h n = omega (arith, bit_most (label H l), bit_most (label H r))
   found_most (suc b) (end_left {r} s) h n = omega (arith, bit_most (label H r))
   found_most (suc b) (end_right {l} s) h n = omega (arith, bit_most (label H l))
-  found_most (suc b) (go_left {l} {r} s f) h n = omega (arith, bit_most (label H r), found_most b f h.2 (omega (arith, h.0)))
-  found_most (suc b) (go_right {l} {r} s f) h n = omega (arith, bit_most (label H l), found_most b f h.3 (omega (arith, h.1)))
+  found_most (suc b) (go_left {l = l} {r = r} {p = p} s f) h n =
+      omega (arith, bit_most (label H r), found_most {t = l} {p = p} b f h.2 (omega (arith, h.0)))
+  found_most (suc b) (go_right {l = l} {r = r} {p = p} s f) h n =
+      omega (arith, bit_most (label H l), found_most {t = r} {p = p} b f h.3 (omega (arith, h.1)))
 
 -- The longest that is issued: fewer than 3 * 2 ^ b entries
 

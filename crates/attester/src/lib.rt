@@ -1,1 +1,2 @@
 // The attester's theory: definitions in specs/, their laws in proofs/. It has no code.
+#![tactic(auto)]
