@@ -1,4 +1,6 @@
 // The list as text: read_list takes a list of codes apart into keys, or refuses it with a number and a place.
+#![tactic(auto)]
+
 ghost use Rattle.codes.specs.Read.{Read};
 
 use answer::Answer;

@@ -1,0 +1,12 @@
+-- What is left of the string passes exactly if the whole does.
+use mathlib.Core.Path.{◌≡◌}
+use Prim.Native.Nat.{◌≤◌, ◌-◌}
+use lib.ListN.{length, drop}
+use Rattle.codes.specs.Code.{all, digit}
+use Rattle.codes.proofs.count.all_digits.Given as goal
+
+abbrev pub invariant-loop-i : goal.invariant-loop-i
+invariant-loop-i l = (l.i ≤ length l.s) × (all digit (drop l.i l.s) ≡ all digit l.s)
+
+abbrev pub decreases-loop-i : goal.decreases-loop-i
+decreases-loop-i l = length l.s - l.i
