@@ -1,4 +1,6 @@
 // The profiles (02, vi): which there are, and the label that a node record has in each.
+#![tactic(auto)]
+
 ghost use Rattle.std.specs.Prelude.{◌≡◌, ◌^◌, ◌<◌, length};
 ghost use Rattle.profile.specs.Profile as specs;
 
