@@ -1,4 +1,6 @@
 // The tree of a key list: its depth, and the digest that stands for the whole list.
+#![tactic(auto)]
+
 pub mod admission;
 pub mod labels;
 

@@ -5,17 +5,13 @@ use lib.Count.{leading_le}
 use Rattle.attester.specs.Depth.{bit_length}
 use Rattle.attester.proofs.DepthLaws.{bit_length_leading_zeros, depth_of_tree}
 use Rattle.tree.specs.Depth.{DepthOf}
-use Rattle.tree.proofs.depth.Statement.{statement}
-use Rattle.tree.proofs.depth.Tie as tie
+use Rattle.tree.proofs.depth.Goals as goal
 
 depth-of : (n r : ℕ) → r ≡ bit_length n → DepthOf n r
 depth-of n r e = record { bits = e; levels = λ keys m. depth_of_tree keys ∙ (ap bit_length m ∙ sym e) }
 
-sub-result : tie.Need-overflow-sub-result
-sub-result c = leading_le 32 c.args.n
+pub overflow_sub-result : goal.overflow_sub-result
+overflow_sub-result c = leading_le 32 c.args.n
 
-returns : tie.Need-returns
+pub returns : goal.returns
 returns c = depth-of c.args.n _ (bit_length_leading_zeros 32 c.args.n c.ranges.n.fits)
-
-pub depth-spec : {M : Type 1} → statement M
-depth-spec = tie.close (tie.spec sub-result returns)
