@@ -18,7 +18,6 @@ use Rattle.octets.proofs.PutLaws.{put_end}
 use Rattle.attester.specs.Entry.{key}
 use Rattle.attester.specs.Record.{Child, bit, flag, child_octets, node_record}
 use Rattle.attester.specs.Path.{Path, foot, step}
-use Rattle.attester.specs.Form.{optional}
 use Rattle.attester.proofs.OffsetLaws.{OptionalAt, optional_wrong, optional_none, optional_some, optional_cut}
 use Rattle.attester.proofs.LayoutLaws.{layout, Climbing, climb_start, climb_next}
 use Rattle.tree.specs.Labels.{one_if, flag_of}

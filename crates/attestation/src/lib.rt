@@ -1,4 +1,6 @@
 // Attestations: issuing one for a key under a list, and judging one for a key under a digest.
+#![tactic(auto)]
+
 mod form;
 mod issue;
 pub mod judge;
