@@ -1,29 +1,25 @@
 -- What is kept of a verdict, by the case that the code is in.
-use mathlib.Core.Path.{◌≡◌}
-use mathlib.Core.List.{[], ◌∷◌}
+use mathlib.Core.Path.{◌≡◌, refl}
 use Prim.Native.Nat.{ℕ, ◌≤◌}
 use native.Mathlib.Omega.{arith}
-use denote.Enum.Declared.{tag_of}
-use types.Run.{OneOf, miss}
 use Rattle.answer.specs.declared.Answer.TheVariants.{Done}
 use Rattle.answer.specs.declared.Answer.TheVariants as answer
 use Rattle.answer.specs.declared.Verdict.{Verdict}
 use Rattle.answer.specs.declared.Verdict.TheVariants.{Present, Absent, Refused}
 use Rattle.answer.specs.Answer.{present_number, verdict_packed}
-use Rattle.answer.specs.contracts.Verdict.{the_type}
 use Rattle.extractor.specs.Told.{told}
 
-pub told_accepted : (which : ℕ) (v : Verdict) (n : ℕ) → OneOf (0 ∷ 1 ∷ []) (tag_of the_type v) → n ≡ verdict_packed v → Done n ≡ told which v
+pub told_accepted : (which : ℕ) (v : Verdict) (n : ℕ) → ((m p : ℕ) → v ≡ Refused m p → ⊥) → n ≡ verdict_packed v → Done n ≡ told which v
 unfolding told
 told_accepted which Present n k e = rw e
 told_accepted which Absent n k e = rw e
-told_accepted which (Refused m p) n k e = absurd (miss (0 ∷ 1 ∷ []) 2 tt k)
+told_accepted which (Refused m p) n k e = absurd (k m p refl)
 
 -- it fits 32 bits
-pub told_small : (v : Verdict) (n : ℕ) → OneOf (0 ∷ 1 ∷ []) (tag_of the_type v) → n ≡ verdict_packed v → n ≤ present_number
+pub told_small : (v : Verdict) (n : ℕ) → ((m p : ℕ) → v ≡ Refused m p → ⊥) → n ≡ verdict_packed v → n ≤ present_number
 told_small Present n k e = rw e (omega arith)
 told_small Absent n k e = rw e (omega arith)
-told_small (Refused m p) n k e = absurd (miss (0 ∷ 1 ∷ []) 2 tt k)
+told_small (Refused m p) n k e = absurd (k m p refl)
 
 pub told_refused : (which : ℕ) (v : Verdict) {m p : ℕ} → v ≡ Refused m p → answer.Refused m which ≡ told which v
 unfolding told

@@ -1,5 +1,7 @@
 // The extractor: from two attestations whose verdicts contradict each other, two different node records with the same
 // label.
+#![tactic(auto)]
+
 mod walk;
 
 ghost use Rattle.std.specs.Prelude.{◌≡◌};
