@@ -5,8 +5,6 @@ use mathlib.Core.Option.{Option, none, some}
 use Prim.Native.Nat.{ℕ, ◌≤◌, ◌<◌}
 use native.Mathlib.Omega.{arith}
 use borrow.Author.Tests.{ne_eqb, lt-ltb}
-use denote.Enum.Declared.{tag_of}
-use types.Run.{OneOf, miss}
 use lib.ListN.{length, take, drop}
 use lib.Seq.{take_at}
 use Rattle.answer.specs.declared.Answer.{Answer}
@@ -23,16 +21,15 @@ use Rattle.contradiction.specs.declared.Outcome.{Outcome}
 use Rattle.contradiction.specs.declared.Outcome.TheVariants.{Found, Refused}
 use Rattle.contradiction.specs.Trial.{number_key, first_alike, trial_answer}
 use Rattle.contradiction.specs.Drill.{handed, number, refused, tried, drilled, drilling, drill_answer, first_buffer, second_buffer, CarriedOut, Drilled}
-use Rattle.contradiction.specs.contracts.Outcome.{the_type}
 use Rattle.contradiction.proofs.ReadLaws.{read_many, read_sized}
 
 -- `contradict`
 
-nothing_found : (k out₁ out₂ : Octets) (o : Option ℕ) {t : Outcome} → t ≡ trial_answer o → OneOf (1 ∷ 2 ∷ []) (tag_of the_type t)
+nothing_found : (k out₁ out₂ : Octets) (o : Option ℕ) {t : Outcome} → t ≡ trial_answer o → ((n : ℕ) → t ≡ Found n → ⊥)
     → CarriedOut (tried k o) out₁ out₂ t out₁ out₂
 unfolding trial_answer tried drill_answer first_buffer second_buffer
 nothing_found k out₁ out₂ none e m = record { answered = e; first_left = refl; second_left = refl }
-nothing_found k out₁ out₂ (some n) e m = absurd (miss (1 ∷ 2 ∷ []) 0 tt (rw e at m))
+nothing_found k out₁ out₂ (some n) e m = absurd (m n e)
 
 found_tried : (k : Octets) (o : Option ℕ) {n : ℕ} → Found n ≡ trial_answer o → tried k o ≡ number n (handed k (number_key n))
 unfolding trial_answer tried
@@ -40,7 +37,7 @@ found_tried k none e = let z : ◌≡◌ {A = ℕ} 0 1 = cc in absurd (omega ari
 found_tried k (some m) {n} e = let q : n ≡ m = cc in rw q
 
 module _ (k out₁ out₂ : Octets) (bound : ℕ) {t : Outcome} (e : t ≡ trial_answer (first_alike k bound 0)) where
-  pub contradict_none : OneOf (1 ∷ 2 ∷ []) (tag_of the_type t) → CarriedOut (tried k (first_alike k bound 0)) out₁ out₂ t out₁ out₂
+  pub contradict_none : ((n : ℕ) → t ≡ Found n → ⊥) → CarriedOut (tried k (first_alike k bound 0)) out₁ out₂ t out₁ out₂
   contradict_none m = nothing_found k out₁ out₂ (first_alike k bound 0) e m
 
   pub contradict_found : {n : ℕ} {r : Outcome} {out₁' out₂' : Octets} → t ≡ Found n

@@ -1,5 +1,7 @@
 // The drill (02, vi): for a list of one code, a number whose one-node tree has the same short label, and what the extractor shows of
 // the two.
+#![tactic(auto)]
+
 mod handing;
 mod number;
 mod trial;
@@ -11,7 +13,7 @@ ghost use Rattle.contradiction.specs.Drill.{tried, CarriedOut, Drilled, drill_pa
 use answer::Answer;
 
 // The number that was found, that there is none, or a refusal.
-#[derive(Drop)]
+#[derive(Clone, Copy)]
 pub enum Outcome {
     Found(u32),
     None,
