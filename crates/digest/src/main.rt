@@ -1,4 +1,6 @@
 // The program: reads a list on standard input and prints its digest, or its refusal, as one line.
+#![tactic(auto)]
+
 mod line;
 
 use input::Input;

@@ -1,5 +1,7 @@
 // The drill program: reads a list of one code on standard input and prints two node records with the same short label, one a line,
 // or `none`, or the list's refusal.
+#![tactic(auto)]
+
 mod line;
 
 use input::Input;

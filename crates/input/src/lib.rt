@@ -1,11 +1,13 @@
 // Standard input, read to its end.
+#![tactic(auto)]
+
 ghost use Rattle.std.specs.Prelude.{◌≤◌, length};
 ghost use Rattle.input.specs.Input.{More, Within};
 
 use libc::STDIN_FILENO;
 
 // What one read gave: so many octets, at least one; the input's end; or that it failed.
-#[derive(Drop)]
+#[derive(Clone, Copy)]
 pub enum Step {
     Octets(usize),
     End,
@@ -13,7 +15,7 @@ pub enum Step {
 }
 
 // How many octets were read, to the end of the input or of the buffer; or that reading failed on the way.
-#[derive(Drop)]
+#[derive(Clone, Copy)]
 pub enum Input {
     Whole(usize),
     Broken,

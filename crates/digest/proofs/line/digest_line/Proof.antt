@@ -32,12 +32,12 @@ mul-end : tie.Need-overflow-mul-end
 mul-end c = search rules
 
 array-share-prefix-keys : tie.Need-array-share-prefix-keys
-array-share-prefix-keys c = let r = rw c.before.a2.given.1 at c.before.before.before.before.read-list.ensures in
-    omega (arith, read_fits _ _ _ _ r, c.before.before.before.before.read-list.auto)
+array-share-prefix-keys c = let r = rw c.before.a2.given.1 at c.before.before.before.before.read_list.ensures in
+    omega (arith, read_fits _ _ _ _ r, c.before.before.before.before.read_list.auto)
 
 slice-aggregate-digest : tie.Need-slice-aggregate-digest
-slice-aggregate-digest c = let r = rw c.before.before.a2.given.1 at c.before.before.before.before.before.read-list.ensures in
-    sym (length-take-le _ _ (omega (arith, read_fits _ _ _ _ r, c.before.before.before.before.before.read-list.auto)))
+slice-aggregate-digest c = let r = rw c.before.before.a2.given.1 at c.before.before.before.before.before.read_list.ensures in
+    sym (length-take-le _ _ (omega (arith, read_fits _ _ _ _ r, c.before.before.before.before.before.read_list.auto)))
 
 slice-aggregate-digest-2 : tie.Need-slice-aggregate-digest-2
 slice-aggregate-digest-2 c = search rules
@@ -53,7 +53,7 @@ same_length c = search rules
 
 returns : tie.Need-returns
 returns c =
-    let r = rw c.before.before.before.before.before.a.given.1 at c.before.before.before.before.before.before.before.before.read-list.ensures in
+    let r = rw c.before.before.before.before.before.a.given.1 at c.before.before.before.before.before.before.before.before.read_list.ensures in
     let m = c.before.before.before.before.before.a.given.0.0 in
     let p = c.before.before.before.before.before.a.given.0.1.0 in
     let f = c.before.before.before.before.known-told.given in
@@ -65,7 +65,7 @@ same-length-2 c = search rules
 
 returns-2 : tie.Need-returns-2
 returns-2 c =
-    let r = rw c.before.before.before.before.before.before.before.before.before.before.a2.given.1 at c.before.before.before.before.before.before.before.before.before.before.before.before.before.read-list.ensures in
+    let r = rw c.before.before.before.before.before.before.before.before.before.before.a2.given.1 at c.before.before.before.before.before.before.before.before.before.before.before.before.before.read_list.ensures in
     let n = c.before.before.before.before.before.before.before.before.before.before.a2.given.0.0 in
     let f = c.before.before.before.before.before.before.before.before.before.known-told2.given in
     let d = c.before.before.before.before.before.before.digest.new.1.1.0 in
