@@ -1,6 +1,6 @@
 -- By demand 2 our own attestation is accepted under the list's digest and tells what is so, and the lie tells the other.
 use mathlib.Core.Path.{◌≡◌, sym, ap, ◌∙◌}
-use mathlib.Core.Bool.{Bool, true, false, cond}
+use mathlib.Core.Bool.{true, cond}
 use mathlib.Core.List.{List}
 use mathlib.Core.Logic.{inl, inr}
 use Prim.Native.Nat.{ℕ}
@@ -14,7 +14,7 @@ use Rattle.profile.specs.Profile.{known, label}
 use Rattle.profile.proofs.ProfileLaws.{label_length, in_known}
 use Rattle.attester.specs.Entry.{entries}
 use Rattle.attester.specs.Label.{digest}
-use Rattle.attester.specs.Verdict.{Accepted, present, absent}
+use Rattle.attester.specs.Verdict.{Accepted}
 use Rattle.attester.specs.Verify.{verify}
 use Rattle.attester.specs.Search.{listed}
 use Rattle.attester.specs.Attestation.{attestation}

@@ -76,44 +76,38 @@ pub fn drill(text: &[u8], bound: u32, out1: &mut [u8], out2: &mut [u8]) -> Outco
     contradiction::drill(text, bound, out1, out2)
 }
 
-#[unsafe(no_mangle)]
-pub extern "C" fn sagebutton_hash(msg: &[u8], out: &mut [u8]) -> u64
+pub fn sagebutton_hash(msg: &[u8], out: &mut [u8]) -> u64
     ensures { Packed packed (λ a. Hashed msg.now out.old a out.new) result }
 {
     answer::pack(hash(msg, out))
 }
 
-#[unsafe(no_mangle)]
-pub extern "C" fn sagebutton_read_list(text: &[u8], out: &mut [u8]) -> u64
+pub fn sagebutton_read_list(text: &[u8], out: &mut [u8]) -> u64
     ensures { Packed packed (λ a. Read text.now out.old a out.new) result }
 {
     answer::pack(read_list(text, out))
 }
 
-#[unsafe(no_mangle)]
-pub extern "C" fn sagebutton_digest(profile: u32, keys: &[u8], out: &mut [u8]) -> u64
+pub fn sagebutton_digest(profile: u32, keys: &[u8], out: &mut [u8]) -> u64
     ensures { Packed packed (λ a. Digested profile keys.now out.old a out.new) result }
 {
     answer::pack(digest(profile, keys, out))
 }
 
-#[unsafe(no_mangle)]
-pub extern "C" fn sagebutton_attest(profile: u32, key: &[u8], keys: &[u8], out: &mut [u8]) -> u64
+pub fn sagebutton_attest(profile: u32, key: &[u8], keys: &[u8], out: &mut [u8]) -> u64
     ensures { Packed packed (λ a. Attested profile key.now keys.now out.old a out.new) result }
 {
     answer::pack(attest(profile, key, keys, out))
 }
 
 // Its contract also asks for `Proved`, what the functions say together: nothing else would miss those proofs.
-#[unsafe(no_mangle)]
-pub extern "C" fn sagebutton_verify(profile: u32, key: &[u8], digest: &[u8], att: &[u8]) -> u64
+pub fn sagebutton_verify(profile: u32, key: &[u8], digest: &[u8], att: &[u8]) -> u64
     ensures { (Packed verdict_packed (Verified profile key.now digest.now att.now) result) × Proved }
 {
     answer::pack_verdict(verify(profile, key, digest, att))
 }
 
-#[unsafe(no_mangle)]
-pub extern "C" fn sagebutton_extract(
+pub fn sagebutton_extract(
     profile: u32,
     key: &[u8],
     digest: &[u8],
@@ -127,8 +121,7 @@ pub extern "C" fn sagebutton_extract(
     answer::pack(extract(profile, key, digest, first, second, out1, out2))
 }
 
-#[unsafe(no_mangle)]
-pub extern "C" fn sagebutton_drill(text: &[u8], bound: u32, out1: &mut [u8], out2: &mut [u8]) -> u64
+pub fn sagebutton_drill(text: &[u8], bound: u32, out1: &mut [u8], out2: &mut [u8]) -> u64
     ensures { Packed drill_packed (λ a. Drilled text.now bound out1.old out2.old a out1.new out2.new) result }
 {
     contradiction::pack_drill(drill(text, bound, out1, out2))
