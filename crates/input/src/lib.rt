@@ -1,10 +1,10 @@
-// Standard input, read to its end.
+// An input, such as standard input, read to its end.
 #![tactic(auto)]
 
-ghost use Rattle.std.specs.Prelude.{◌≤◌, length};
-ghost use Rattle.input.specs.Input.{More, Within};
+ghost use Rattle.std.specs.Prelude.{◌≡◌, ◌≤◌, length, take};
+ghost use Rattle.input.specs.Input.{More, Within, Gave, Took};
 
-use libc::STDIN_FILENO;
+use std::io::Read;
 
 // What one read gave: so many octets, at least one; the input's end; or that it failed.
 #[derive(Clone, Copy)]
@@ -21,30 +21,28 @@ pub enum Input {
     Broken,
 }
 
-// Reads once into text from index at on.
-fn read_at(text: &mut [u8], at: usize) -> Step
+// Reads once into text from index at on. A read that a signal interrupts counts as one that failed.
+fn read_at<R: Read>(input: &mut R, text: &mut [u8], at: usize) -> Step
     requires { at ≤ length text.old }
-    ensures { More at (length text.old) result }
+    ensures room { More at (length text.old) result }
+    ensures front { take at text.new ≡ take at text.old }
+    ensures gave { Gave (R.remaining input.old) (R.remaining input.new) text.new at result }
 {
-    let got = libc::read(STDIN_FILENO, &mut text[at..]);
-    let n = io::count(got, &text[at..]);
-    if 0 < n {
-        return Step::Octets(n);
+    match input.read(&mut text[at..]) {
+        Ok(0) => Step::End,
+        Ok(n) => Step::Octets(n),
+        Err(_) => Step::Failed,
     }
-    if got < 0 {
-        return Step::Failed;
-    }
-    Step::End
 }
 
 // Reads into the front of text. A failed read is told apart from the input's end, so that no list loses its tail in silence.
-pub fn read_text(text: &mut [u8]) -> Input
-    ensures { Within (length text.old) result }
+pub fn read_text<R: Read>(input: &mut R, text: &mut [u8]) -> Input
+    ensures room { Within (length text.old) result }
+    ensures took { Took (R.remaining input.old) (R.remaining input.new) text.new result }
 {
     let mut n = 0;
     while n < text.len() {
-        let step = read_at(text, n);
-        match step {
+        match read_at(input, text, n) {
             Step::Octets(k) => n += k,
             Step::End => return Input::Whole(n),
             Step::Failed => return Input::Broken,
