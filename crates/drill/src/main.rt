@@ -5,22 +5,23 @@
 mod line;
 
 use input::Input;
-use libc::{STDERR_FILENO, STDOUT_FILENO};
+use std::io::Write;
 
-fn main() {
+fn main(rt: HostRuntime) {
     // one octet more than a list may have, so that a longer one is seen to be longer
-    let mut text = io::large_buffer();
-    let got = input::read_text(&mut text);
+    let mut text = [0u8; 65536];
+    let got = input::read_text(&mut rt.stdin(), &mut text);
     let Input::Whole(n) = got else {
-        io::write_all(
-            STDERR_FILENO,
-            b"drill: standard input could not be read to its end\n",
-        );
+        let _ = rt
+            .stderr()
+            .write_all(b"drill: standard input could not be read to its end\n");
         return;
     };
     let mut out = [0u8; 342];
     let end = line::drill_lines(&text[..n], &mut out);
-    if !io::write_all(STDOUT_FILENO, &out[..end]) {
-        io::write_all(STDERR_FILENO, b"drill: the lines could not be written\n");
+    if rt.stdout().write_all(&out[..end]).is_err() {
+        let _ = rt
+            .stderr()
+            .write_all(b"drill: the lines could not be written\n");
     }
 }
