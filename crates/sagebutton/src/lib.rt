@@ -1,6 +1,7 @@
-// The face of Sagebutton: each public function, for Rattle callers by its name and for C and Rust callers by its name after
-// `sagebutton_`. None asks anything of its caller: every input is answered, or refused with a number and a place. A profile is 0 for
-// full labels and 1 for the drill's; a digest does not carry it, so one number is for the caller to keep throughout.
+// The face of Sagebutton: each public function, for Rattle callers by its name and, with its answer as one number, by its name after
+// `sagebutton_`, as the crate sagebutton_c exports it to C and Rust callers. None asks anything of its caller: every input is answered,
+// or refused with a number and a place. A profile is 0 for full labels and 1 for the drill's; a digest does not carry it, so one
+// number is for the caller to keep throughout.
 #![tactic(auto)]
 
 ghost use Rattle.sha256.specs.Hash.{Hashed};
