@@ -5,6 +5,7 @@ ghost use Rattle.sha256.specs.Fips180.{padding, zeros};
 use crate::words::put_word;
 
 // How many blocks n octets and their padding take: the octet 0x80 and the length need nine more.
+#[tactic(auto, unfolding(crate::specs::Fips180::zeros))]
 pub fn last_count(n: usize) -> usize
     requires { n < 64 }
     ensures { (64 * result ≡ n + 9 + zeros (8 * n) / 8) × (1 ≤ result) × (result ≤ 2) }
