@@ -19,6 +19,7 @@ pub fn known(profile: u32) -> bool
 }
 
 // The record's label: its SHA-256, of which the drill keeps the first 2 octets, before 30 zeros.
+#[tactic(auto, using(crate::proofs::ProfileLaws::label_whole))]
 pub fn label(profile: u32, rec: &[u8]) -> [u8; 32]
     requires { length rec.now < 2 ^ 61 }
     ensures { result ≡ specs.label profile rec.now }
