@@ -43,6 +43,7 @@ fn line_fault(text: &[u8], at: usize, end: usize, before: &[u8; 20]) -> u16
 }
 
 // n code lines from `start` on, and no octet after them.
+#[tactic(auto, using(crate::proofs::TextLaws::judge_left_over))]
 fn judge_codes(text: &[u8], start: usize, n: u32) -> Answer
     requires { (start ≤ length text.now) × (n ≤ 3000) }
     ensures { result ≡ answer (codes n 3 none (drop start text.now)) }

@@ -5,7 +5,7 @@ use lib.ListN.{drop}
 use native.Mathlib.Omega.{arith}
 use Rattle.codes.specs.Text.{codes}
 use Rattle.codes.specs.Read.{answer}
-use Rattle.codes.proofs.TextLaws.{judge_start, judge_turn, judge_fault, judge_left_over, judge_done, sound_few}
+use Rattle.codes.proofs.TextLaws.{judge_start, judge_turn, judge_fault, judge_done, sound_few}
 use Rattle.codes.proofs.text.judge_codes.Goals as goal
 
 pub loop-i-init : goal.loop-i-init
@@ -32,10 +32,6 @@ loop-i-preserved c = let a = c.args in
     let s = sound_few (some c.loop-i.before) a.text.now c.loop-i.at c.line_end-end.result c.line_end-end.ensures.0 f in
     (omega arith, omega arith, judge_turn a.text.now c.loop-i.before c.loop-i.at c.line_end-end.result a.n c.loop-i.i (answer (codes a.n 3 none (drop a.start a.text.now))) c.line_end-end.ensures.0 c.loop-i.invariant.2 (omega arith) c.key_of-before.result f c.key_of-before.ensures)
 
-pub returns-then-at-text : goal.returns-then-at-text
-returns-then-at-text c = let a = c.args in
-    judge_left_over a.text.now c.loop-i.before c.loop-i.at a.n c.loop-i.i (answer (codes a.n 3 none (drop a.start a.text.now))) c.loop-i.invariant.2 (omega arith) c.if-at-text.true
-
 pub returns : goal.returns
 returns c = let a = c.args in
-    judge_done a.text.now c.loop-i.before c.loop-i.at a.n c.loop-i.i (answer (codes a.n 3 none (drop a.start a.text.now))) c.loop-i.invariant.2 (omega arith) c.if-at-text.false
+    judge_done a.text.now c.loop-i.before c.loop-i.at a.n c.loop-i.i (answer (codes a.n 3 none (drop a.start a.text.now))) c.loop-i.invariant.2 (omega arith) (omega arith)
