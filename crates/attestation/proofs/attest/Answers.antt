@@ -36,15 +36,14 @@ overflow_add-n c =
 
 pub returns-then-out-n : goal.returns-then-out-n
 returns-then-out-n c =
-    let a = c.args in
-    attested_short a.profile (sym c.known.ensures ∙ c.if-not-known.false) a.key.now a.keys.now a.out.now
-    c.admit-a.ensures (omega arith) c.in-Done.is (c.levels_length-n.ensures (label a.profile)) c.if-out-n.true
+    attested_short c.args.profile (sym c.known.ensures ∙ c.if-not-known.false) c.args.key.now c.args.keys.now c.args.out.now
+    c.admit-a.ensures (omega arith) c.in-Done.is (c.levels_length-n.ensures (label c.args.profile)) (omega arith)
 
 pub put_attestation-requires : goal.put_attestation-requires
 put_attestation-requires c =
     let a = c.args in
     let k = (accepted (label a.profile) a.key.now a.keys.now a.out.now c.admit-a.ensures c.in-Done.is).keyed in
-    (k, omega (arith, c.levels_length-n.ensures (label a.profile), c.if-out-n.false, render_room a.key.now a.keys.now k (label a.profile) (label_length a.profile)))
+    (k, omega (arith, c.levels_length-n.ensures (label a.profile), render_room a.key.now a.keys.now k (label a.profile) (label_length a.profile)))
 
 pub overflow_cast-result : goal.overflow_cast-result
 overflow_cast-result c =
@@ -56,4 +55,4 @@ pub returns : goal.returns
 returns c =
     let a = c.args in
     attested_done a.profile (sym c.known.ensures ∙ c.if-not-known.false) a.key.now a.keys.now a.out.now
-    c.admit-a.ensures (omega arith) c.in-Done.is (c.levels_length-n.ensures (label a.profile)) c.if-out-n.false c.put_attestation.ensures
+    c.admit-a.ensures (omega arith) c.in-Done.is (c.levels_length-n.ensures (label a.profile)) (omega arith) c.put_attestation.ensures
