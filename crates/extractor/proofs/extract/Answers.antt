@@ -30,17 +30,17 @@ returns-in_default-b c =
 pub returns-then-p-q : goal.returns-then-p-q
 returns-then-p-q c =
     let k = sym c.known.ensures ∙ c.if-not-known.false in
-    extracted_same c.args.profile k c.args.key.now c.args.digest.now c.args.first.now c.args.second.now c.args.out1.now c.args.out2.now c.sized.ensures (c.if-not-sized.false) c.verify.ensures c.told-a.ensures c.in-Done.is c.verify-2.ensures c.told-b.ensures c.in-Done-b.is c.if-p-q.true
+    extracted_same c.args.profile k c.args.key.now c.args.digest.now c.args.first.now c.args.second.now c.args.out1.now c.args.out2.now c.sized.ensures (c.if-not-sized.false) c.verify.ensures c.told-a.ensures c.in-Done.is c.verify-2.ensures c.told-b.ensures c.in-Done-b.is (omega arith)
 
 pub passed-i-requires : goal.passed-i-requires
 passed-i-requires c =
     let k = sym c.known.ensures ∙ c.if-not-known.false in
-    contradicting c.args.profile k c.args.key.now c.args.digest.now c.args.first.now c.args.second.now c.args.out1.now c.args.out2.now c.sized.ensures (c.if-not-sized.false) c.verify.ensures c.told-a.ensures c.in-Done.is c.verify-2.ensures c.told-b.ensures c.in-Done-b.is (λ e. c.if-p-q.false e)
+    contradicting c.args.profile k c.args.key.now c.args.digest.now c.args.first.now c.args.second.now c.args.out1.now c.args.out2.now c.sized.ensures (c.if-not-sized.false) c.verify.ensures c.told-a.ensures c.in-Done.is c.verify-2.ensures c.told-b.ensures c.in-Done-b.is (λ e. omega arith)
 
 pub record-requires : goal.record-requires
 record-requires c =
     let k = sym c.known.ensures ∙ c.if-not-known.false in
-    ((contradicting c.args.profile k c.args.key.now c.args.digest.now c.args.first.now c.args.second.now c.args.out1.now c.args.out2.now c.sized.ensures (c.if-not-sized.false) c.verify.ensures c.told-a.ensures c.in-Done.is c.verify-2.ensures c.told-b.ensures c.in-Done-b.is (λ e. c.if-p-q.false e)).0, c.passed-i.ensures.1)
+    ((contradicting c.args.profile k c.args.key.now c.args.digest.now c.args.first.now c.args.second.now c.args.out1.now c.args.out2.now c.sized.ensures (c.if-not-sized.false) c.verify.ensures c.told-a.ensures c.in-Done.is c.verify-2.ensures c.told-b.ensures c.in-Done-b.is (λ e. omega arith)).0, c.passed-i.ensures.1)
 
 pub put-requires : goal.put-requires
 put-requires c =
@@ -49,7 +49,7 @@ put-requires c =
 pub record-requires-2 : goal.record-requires-2
 record-requires-2 c =
     let k = sym c.known.ensures ∙ c.if-not-known.false in
-    ((contradicting c.args.profile k c.args.key.now c.args.digest.now c.args.first.now c.args.second.now c.args.out1.now c.args.out2.now c.sized.ensures (c.if-not-sized.false) c.verify.ensures c.told-a.ensures c.in-Done.is c.verify-2.ensures c.told-b.ensures c.in-Done-b.is (λ e. c.if-p-q.false e)).1, c.passed-i.ensures.2)
+    ((contradicting c.args.profile k c.args.key.now c.args.digest.now c.args.first.now c.args.second.now c.args.out1.now c.args.out2.now c.sized.ensures (c.if-not-sized.false) c.verify.ensures c.told-a.ensures c.in-Done.is c.verify-2.ensures c.told-b.ensures c.in-Done-b.is (λ e. omega arith)).1, c.passed-i.ensures.2)
 
 pub put-requires-2 : goal.put-requires-2
 put-requires-2 c =
@@ -58,9 +58,9 @@ put-requires-2 c =
 pub overflow_cast-result : goal.overflow_cast-result
 overflow_cast-result c =
     let k = sym c.known.ensures ∙ c.if-not-known.false in
-    omega (arith, c.passed-i.ensures.1, level_few c.args.first.now (contradicting c.args.profile k c.args.key.now c.args.digest.now c.args.first.now c.args.second.now c.args.out1.now c.args.out2.now c.sized.ensures (c.if-not-sized.false) c.verify.ensures c.told-a.ensures c.in-Done.is c.verify-2.ensures c.told-b.ensures c.in-Done-b.is (λ e. c.if-p-q.false e)).0)
+    omega (arith, c.passed-i.ensures.1, level_few c.args.first.now (contradicting c.args.profile k c.args.key.now c.args.digest.now c.args.first.now c.args.second.now c.args.out1.now c.args.out2.now c.sized.ensures (c.if-not-sized.false) c.verify.ensures c.told-a.ensures c.in-Done.is c.verify-2.ensures c.told-b.ensures c.in-Done-b.is (λ e. omega arith)).0)
 
 pub returns : goal.returns
 returns c =
     let k = sym c.known.ensures ∙ c.if-not-known.false in
-    extracted_done c.args.profile k c.args.key.now c.args.digest.now c.args.first.now c.args.second.now c.args.out1.now c.args.out2.now c.sized.ensures (c.if-not-sized.false) c.verify.ensures c.told-a.ensures c.in-Done.is c.verify-2.ensures c.told-b.ensures c.in-Done-b.is (λ e. c.if-p-q.false e) c.passed-i.ensures.0 c.«record».ensures c.record-2.ensures c.put.ensures c.put-2.ensures
+    extracted_done c.args.profile k c.args.key.now c.args.digest.now c.args.first.now c.args.second.now c.args.out1.now c.args.out2.now c.sized.ensures (c.if-not-sized.false) c.verify.ensures c.told-a.ensures c.in-Done.is c.verify-2.ensures c.told-b.ensures c.in-Done-b.is (λ e. omega arith) c.passed-i.ensures.0 c.«record».ensures c.record-2.ensures c.put.ensures c.put-2.ensures
