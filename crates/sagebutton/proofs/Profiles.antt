@@ -1,4 +1,4 @@
--- An unknown profile's answer is 17 by `in-profile`, and what a refusal leaves is the buffer.
+-- An unknown profile's answer is 17 by `in_profile`, and what a refusal leaves is the buffer.
 use mathlib.Core.Path.{◌≡◌, ◌∙◌}
 use mathlib.Core.Bool.{false}
 use Prim.Native.Nat.{ℕ}

@@ -24,8 +24,8 @@ Untouched Meets = (out : Octets) (m p : ℕ) (out' : Octets) → Meets out (Refu
 abbrev pub WrittenIsTheList : Type 0
 WrittenIsTheList = (text out : Octets) (n : ℕ) (out' : Octets) → Read text out (Done n) out' → text ≡ text_of (map code_of (entries width n out'))
 
--- `Nothing-skipped` says the same of the reading by itself, and that its keys are those of ascending codes;
--- `Every-listing-accepted` says that every list of 1 to 3,000 ascending codes, so written, is accepted with exactly its keys.
+-- `NothingSkipped` says the same of the reading by itself, and that its keys are those of ascending codes;
+-- `EveryListingAccepted` says that every list of 1 to 3,000 ascending codes, so written, is accepted with exactly its keys.
 pub record Demand1 : Type 0 where
   pub hash_untouched : (msg : Octets) → Untouched (Hashed msg)
   pub read_list_untouched : (text : Octets) → Untouched (Read text)

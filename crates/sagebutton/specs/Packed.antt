@@ -1,4 +1,4 @@
--- What an exported function promises: the number that stands for an answer which meets the promise. And `Numbers-tell`: whatever a
+-- What an exported function promises: the number that stands for an answer which meets the promise. And `NumbersTell`: whatever a
 -- promise permits, its number has the bits that the header says, and tells the answer. Proved in `proofs/Packed.antt`.
 use Rattle.std.specs.Prelude.{◌≡◌, cond, ℕ, ◌/◌, ◌%◌, ◌^◌, ◌<◌, eqb}
 use Rattle.answer.specs.declared.Answer.{Answer}

@@ -1,5 +1,5 @@
 -- 01, "Promises that bind": "Try these on the promises and see them rejected". Of each wrong program it is said what it always does,
--- and `Wrong-programs-rejected` that none which does so keeps the promise. Proved in `proofs/WrongPrograms.antt`.
+-- and `WrongProgramsRejected` that none which does so keeps the promise. Proved in `proofs/WrongPrograms.antt`.
 use Rattle.std.specs.Prelude.{◌≡◌, true, cond, ◌⊎◌, ℕ, ◌≤◌, length}
 use mathlib.Core.List.{List, flatten}
 use Rattle.answer.specs.declared.Answer.{Answer}

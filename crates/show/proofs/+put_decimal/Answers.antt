@@ -1,4 +1,4 @@
--- A number's digits are those of a tenth of it and then the last (`decimal-more`), written one after the other. The number falls.
+-- A number's digits are those of a tenth of it and then the last (`decimal_more`), written one after the other. The number falls.
 use Prim.Native.Nat.{ℕ, ◌+◌, ◌/◌, ◌≤◌}
 use mathlib.Core.Path.{◌≡◌, ap, ◌∙◌}
 use native.Mathlib.Omega.{arith}

@@ -1,4 +1,4 @@
--- A refused text's line is its refusal's; an accepted one's keys have a digest (`digest-of-reading`), and the line shows it.
+-- A refused text's line is its refusal's; an accepted one's keys have a digest (`digest_of_reading`), and the line shows it.
 use mathlib.Core.Path.{refl, sym}
 use native.Mathlib.Omega.{arith}
 use Prim.Native.Nat.{ℕ}
