@@ -1,1 +1,3 @@
 pub mod WrittenLaws
+pub mod SaidLaws
+pub mod HandedLaws

@@ -1,9 +1,12 @@
 -- What an answer says: document 01's number and value for each case, and what a lent buffer then holds.
 use Rattle.std.specs.Prelude.{List, ◌++◌, ℕ, ◌+◌, ◌*◌, ◌^◌, length, drop}
-use Rattle.answer.specs.declared.Answer.{Answer}
-use Rattle.answer.specs.declared.Answer.TheVariants.{Done, Refused}
-use Rattle.answer.specs.declared.Verdict.{Verdict}
-use Rattle.answer.specs.declared.Verdict.TheVariants as verdict
+use Rattle.answer.specs.Verdict.{Verdict}
+use Rattle.answer.specs.Verdict as verdict
+
+-- what an accepted call counts, or a refusal's number and place
+pub data Answer : Type 0 where
+  Done : ℕ → Answer
+  Refused : ℕ → ℕ → Answer
 
 -- 01, "Numbers a caller can meet": the refusal's number; 0 where there is none
 abbrev pub number : Answer → ℕ

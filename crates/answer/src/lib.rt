@@ -1,81 +1,121 @@
 // The answers that a caller can meet, and the number that stands for one where a plain number must do.
 #![tactic(auto)]
 
-ghost use Rattle.std.specs.Prelude.{◌≡◌};
-ghost use Rattle.answer.specs.Answer.{packed, verdict_packed};
+ghost use Rattle.std.specs.Prelude.{◌≡◌, ℕ};
+ghost use Rattle.answer.specs.Said.{number_of, refusal, number_of_verdict, found_number, refusal_number, packed_by};
 
-// The refusals by name: 01, "Numbers a caller can meet", and 02.
-pub const SIZE: u16 = 1;
-
-pub const NO_KEYS: u16 = 2;
-
-pub const RAGGED: u16 = 3;
-
-pub const TOO_MANY: u16 = 4;
-
-pub const NOT_ASCENDING: u16 = 5;
-
-pub const TOO_SHORT: u16 = 6;
-
-pub const FORM: u16 = 7;
-
-pub const CHILD_AT_FOOT: u16 = 8;
-
-pub const KEY_ABOVE: u16 = 9;
-
-pub const OTHER_DIGEST: u16 = 10;
-
-pub const NO_CONTRADICTION: u16 = 11;
-
-pub const HEAD: u16 = 12;
-
-pub const NOT_A_CODE: u16 = 13;
-
-pub const LINES: u16 = 14;
-
-pub const MORE_CODES: u16 = 16;
-
-pub const UNKNOWN_PROFILE: u16 = 17;
-
-// What an accepted verdict has in bits 0 to 31 of its number. No refusal has such a place, so that a number which a caller cut to 32
-// bits never turns a refusal into a verdict.
-pub const PRESENT: u64 = 65537;
-
-pub const ABSENT: u64 = 65536;
-
-// Done with what the function counts, or refused with the number and the place of document 01.
-#[derive(Clone, Copy)]
-pub enum Answer {
-    Done(u32),
-    Refused { number: u16, place: u32 },
+// Why a call is refused: 01, "Numbers a caller can meet", and 02.
+#[derive(Clone, Copy, Debug, PartialEq, Eq)]
+pub enum Reason {
+    Size = 1,
+    NoKeys = 2,
+    Ragged = 3,
+    TooMany = 4,
+    NotAscending = 5,
+    TooShort = 6,
+    Form = 7,
+    ChildAtFoot = 8,
+    KeyAbove = 9,
+    OtherDigest = 10,
+    NoContradiction = 11,
+    Head = 12,
+    NotACode = 13,
+    Lines = 14,
+    MoreCodes = 16,
+    UnknownProfile = 17,
 }
 
-// What an attestation shows of a key under a digest: that it is listed, that it is not, or nothing, with the number and the
-// place of document 01.
-#[derive(Clone, Copy)]
-pub enum Verdict {
-    Present,
-    Absent,
-    Refused { number: u16, place: u32 },
-}
+impl Reason {
+    // Its number in the documents.
+    pub fn number(self) -> u16
+        ensures { result ≡ number_of self }
+    {
+        self as u16
+    }
 
-// The answer as one number, for callers in other languages.
-pub fn pack(a: Answer) -> u64
-    ensures { result ≡ packed a }
-{
-    match a {
-        Answer::Done(n) => n as u64,
-        Answer::Refused { number, place } => number as u64 * 281474976710656 + (place as u64),
+    // The refusal for this reason at a place.
+    pub fn at(self, place: u32) -> Refusal
+        ensures { result ≡ refusal self place }
+    {
+        Refusal {
+            reason: self,
+            place,
+        }
     }
 }
 
-// The verdict as one number, for callers in other languages.
-pub fn pack_verdict(v: Verdict) -> u64
-    ensures { result ≡ verdict_packed v }
+// Why, and where: the place is the documents' for that reason.
+#[derive(Clone, Copy, Debug, PartialEq, Eq)]
+pub struct Refusal {
+    pub reason: Reason,
+    pub place: u32,
+}
+
+// What an accepted call counts, or its refusal.
+pub type Answer = Result<u32, Refusal>;
+
+// What an accepted attestation shows of a key under a digest: that it is listed, or that it is not.
+#[derive(Clone, Copy, Debug, PartialEq, Eq)]
+pub enum Verdict {
+    Present,
+    Absent,
+}
+
+// What has a number that callers in other languages are given for it.
+pub trait Number {
+    ghost number: { Self → ℕ };
+
+    fn number(self) -> u64
+        ensures { result ≡ number self };
+}
+
+impl Number for u32 {
+    ghost number = { λ n. n };
+
+    fn number(self) -> u64 {
+        u64::from(self)
+    }
+}
+
+// Above every place that a refusal has, so that a number which a caller cut to 32 bits never turns a refusal into a verdict.
+impl Number for Verdict {
+    ghost number = { number_of_verdict };
+
+    fn number(self) -> u64 {
+        match self {
+            Verdict::Present => 65537,
+            Verdict::Absent => 65536,
+        }
+    }
+}
+
+// Where there is none, a number that is no u32.
+impl Number for Option<u32> {
+    ghost number = { found_number };
+
+    fn number(self) -> u64 {
+        match self {
+            Some(n) => u64::from(n),
+            None => 0x1_0000_0000,
+        }
+    }
+}
+
+// The reason's number in bits 48 to 63, the place in bits 0 to 31.
+impl Number for Refusal {
+    ghost number = { refusal_number };
+
+    fn number(self) -> u64 {
+        u64::from(self.reason.number()) * 0x1_0000_0000_0000 + u64::from(self.place)
+    }
+}
+
+// An answer as one number, for callers in other languages: the value's or the refusal's.
+pub fn pack<T: Number>(answer: Result<T, Refusal>) -> u64
+    ensures { result ≡ packed_by T.number answer }
 {
-    match v {
-        Verdict::Present => PRESENT,
-        Verdict::Absent => ABSENT,
-        Verdict::Refused { number, place } => number as u64 * 281474976710656 + (place as u64),
+    match answer {
+        Ok(value) => value.number(),
+        Err(refusal) => refusal.number(),
     }
 }

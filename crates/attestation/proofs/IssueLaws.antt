@@ -1,7 +1,8 @@
 -- What stands on the path in a key list, one level at a time: a child is there where its part has keys, and what is written for a
 -- step comes after what is written for the path below it.
-use mathlib.Core.Path.{◌≡◌, refl, sym, ap, ◌∙◌, subst}
-use mathlib.Core.List.{[], ◌∷◌, ◌++◌, map, flatten, append-nil, map-append}
+use mathlib.Core.Path.{◌≡◌, refl, ap}
+use Rattle.std.specs.Prelude.{None, Some}
+use mathlib.Core.List.{[], ◌∷◌, map, flatten, append-nil, map-append}
 use mathlib.Core.Option.{none, some}
 use Prim.Native.Nat.{ℕ, suc, ◌+◌, ◌*◌, ◌/◌, ◌≤◌, ◌<◌}
 use native.Mathlib.Omega.{arith}
@@ -24,9 +25,11 @@ use Rattle.attester.proofs.SearchLaws.{found_low, found_sized}
 use Rattle.attester.proofs.AttestationLaws.{issued_found}
 use Rattle.tree.specs.Edition.{width}
 use Rattle.tree.specs.Labels.{label_of}
-use Rattle.attestation.specs.Parts.{Keyed, middle_at, middle_key, onward_part, aside_part, child_of, path_in}
-use Rattle.attestation.proofs.PartsLaws.{path_here, path_on, onward_keyed}
-use Rattle.attestation.proofs.JoinLaws.{Joined}
+use Rattle.attestation.specs.declared.parts.Search.{Search}
+use Rattle.attestation.specs.Parts.{Keyed, middle_at, middle_key, aside_part, child_of, path_in, key_octets, foot_octets, sibling_octets}
+use Rattle.attestation.specs.Search.{path_by, Onward}
+use Rattle.attestation.proofs.PartsLaws.{path_here, path_on, on_shorter}
+use Rattle.octets.proofs.WriterLaws.{Joined}
 
 -- some label function, where the labels do not matter
 abbrev pub bare : Octets → Octets
@@ -55,9 +58,9 @@ pub optional_none : (H : Octets → Octets) (s : Octets) → length s < 20 → o
 unfolding optional_octets
 optional_none H s h = rw (child_none H s h)
 
-pub optional_some : (H : Octets → Octets) (s : Octets) → 20 ≤ length s → Joined (optional_octets (child_of H s)) (1 ∷ []) (label_of H width s)
+pub optional_some : (H : Octets → Octets) (s : Octets) {l : Octets} → 20 ≤ length s → l ≡ label_of H width s → Joined (optional_octets (child_of H s)) (1 ∷ []) l
 unfolding optional_octets
-optional_some H s h = record { joined = rw (child_some H s h) }
+optional_some H s h e = record { joined = rw (child_some H s h, e) }
 
 -- The path as a whole
 
@@ -95,73 +98,88 @@ module _ (x s : Octets) (k : Keyed s) where
   unfolding path_in
   keys_alike H G = search_keys H G x (tree (entries width (length s / width) s))
 
--- The path one level at a time, by the part `on` where the search goes on
+-- The path one level at a time
 
-module _ (x s : Octets) (k : Keyed s) (on : Octets) (e : on ≡ onward_part x s) where
-  pub on_keyed : 20 ≤ length on → Keyed on × (length on + 20 ≤ length s)
-  on_keyed h = subst (λ (q : Octets). Keyed q × (length q + 20 ≤ length s)) (sym e) (onward_keyed s k x (omega (arith, ap length e)))
+module _ (s : Search) where
+  pub shorter : (on : Search) → Onward s (Some on) → length on.keys.now < length s.keys.now
+  shorter on o = omega (arith, on_shorter s.keys.now s.keyed s.x.now o.1 on.keyed.some_key)
 
-  module _ (H : Octets → Octets) (ends : length on < 20) where
-    here : path_in H x s ≡ foot (middle_key s) (child_of H (take (middle_at s) s)) (child_of H (drop (middle_at s + 20) s))
-    here = path_here s k x H (omega (arith, ap length e))
+  module _ (H : Octets → Octets) where
+    -- where it ends
+    module _ (ends : Onward s None) where
+      here : path_by H s ≡ foot (middle_key s.keys.now) (child_of H (take (middle_at s.keys.now) s.keys.now)) (child_of H (drop (middle_at s.keys.now + 20) s.keys.now))
+      here = path_here s.keys.now s.keyed s.x.now H ends
 
-    pub levels_length_here : {l r : Octets} {a b : ℕ} → l ≡ take (middle_at s) s → r ≡ drop (middle_at s + 20) s
-        → a ≡ bit (child_of H l) → b ≡ bit (child_of H r) → 21 + 32 * (a + b) ≡ levels_length width (path_in H x s)
-    unfolding levels_length
-    levels_length_here el er ea eb = rw (here, ea, eb, el, er)
+      pub levels_length_here : {l r : Octets} {a b : ℕ} → l ≡ take (middle_at s.keys.now) s.keys.now → r ≡ drop (middle_at s.keys.now + 20) s.keys.now
+          → a ≡ bit (child_of H l) → b ≡ bit (child_of H r) → 21 + 32 * (a + b) ≡ levels_length width (path_by H s)
+      unfolding levels_length
+      levels_length_here el er ea eb = rw (here, ea, eb, el, er)
 
-    pub height_here : height (path_in H x s) ≡ 0
-    unfolding height
-    height_here = rw here
+      pub height_here : height (path_by H s) ≡ 0
+      unfolding height
+      height_here = rw here
 
-    pub keys_here : flatten (keys (path_in H x s)) ≡ middle_key s
-    unfolding keys flatten
-    keys_here = rw here (append-nil (middle_key s))
+      pub keys_here : {m : Octets} → m ≡ middle_key s.keys.now → Joined (key_octets (path_by H s)) [] m
+      unfolding keys flatten
+      keys_here em = record { joined = rw (here, em) (append-nil (middle_key s.keys.now)) }
 
-    pub foot_here : {l : Octets} → l ≡ take (middle_at s) s
-        → Joined (optional_octets (foot_left (path_in H x s)) ++ optional_octets (foot_right (path_in H x s)))
-        (optional_octets (child_of H l)) (optional_octets (child_of H (drop (middle_at s + 20) s)))
-    unfolding foot_left foot_right
-    foot_here el = record { joined = rw (here, el) }
+      pub foot_here : {l r : Octets} → l ≡ take (middle_at s.keys.now) s.keys.now → r ≡ drop (middle_at s.keys.now + 20) s.keys.now
+          → Joined (foot_octets (path_by H s)) (optional_octets (child_of H l)) (optional_octets (child_of H r))
+      unfolding foot_left foot_right
+      foot_here el er = record { joined = rw (here, el, er) }
 
-    pub siblings_here : flatten (map optional_octets (siblings (path_in H x s))) ≡ []
-    unfolding siblings flatten
-    siblings_here = rw here
+      pub siblings_here : sibling_octets (path_by H s) ≡ []
+      unfolding siblings flatten
+      siblings_here = rw here
 
-  module _ (H : Octets → Octets) (goes_on : 20 ≤ length on) where
-    further : path_in H x s ≡ step (middle_key s) (child_of H (aside_part x s)) (path_in H x on)
-    further =
-        path_on s k x H (omega (arith, ap length e))
-        ∙ ap (λ (q : Octets). step (middle_key s) (child_of H (aside_part x s)) (path_in H x q)) (sym e)
+    -- where it goes on
+    module _ (on : Search) (o : Onward s (Some on)) where
+      further : path_by H s ≡ step (middle_key s.keys.now) (child_of H (aside_part s.x.now s.keys.now)) (path_by H on)
+      further = rw (o.0, o.1) (path_on s.keys.now s.keyed s.x.now H (omega (arith, ap length o.1, on.keyed.some_key)))
 
-    pub levels_length_on : {l : Octets} {a b : ℕ} → l ≡ aside_part x s → a ≡ bit (child_of H l) → b ≡ levels_length width (path_in H x on)
-        → 21 + 32 * a + b ≡ levels_length width (path_in H x s)
-    unfolding levels_length
-    levels_length_on el ea eb = rw (further, ea, eb, el)
+      pub levels_length_on : {l : Octets} {a b : ℕ} → l ≡ aside_part s.x.now s.keys.now → a ≡ bit (child_of H l) → b ≡ levels_length width (path_by H on)
+          → 21 + 32 * a + b ≡ levels_length width (path_by H s)
+      unfolding levels_length
+      levels_length_on el ea eb = rw (further, ea, eb, el)
 
-    pub height_on : height (path_in H x s) ≡ suc (height (path_in H x on))
-    unfolding height
-    height_on = rw further
+      pub height_on : height (path_by H s) ≡ suc (height (path_by H on))
+      unfolding height
+      height_on = rw further
 
-    pub keys_on : Joined (flatten (keys (path_in H x s))) (flatten (keys (path_in H x on))) (middle_key s)
-    unfolding keys flatten
-    keys_on =
-        record { joined = rw (further, flatten_append (keys (path_in H x on)) (middle_key s ∷ []), append-nil (middle_key s)) }
+      pub keys_on : {m : Octets} → m ≡ middle_key s.keys.now → Joined (key_octets (path_by H s)) (key_octets (path_by H on)) m
+      unfolding keys flatten
+      keys_on em =
+          record { joined = rw (further, em, flatten_append (keys (path_by H on)) (middle_key s.keys.now ∷ []), append-nil (middle_key s.keys.now)) }
 
-    pub foot_on : optional_octets (foot_left (path_in H x s)) ++ optional_octets (foot_right (path_in H x s))
-        ≡ optional_octets (foot_left (path_in H x on)) ++ optional_octets (foot_right (path_in H x on))
-    unfolding foot_left foot_right
-    foot_on = rw further
+      pub foot_on : foot_octets (path_by H s) ≡ foot_octets (path_by H on)
+      unfolding foot_left foot_right
+      foot_on = rw further
 
-    pub siblings_on : Joined (flatten (map optional_octets (siblings (path_in H x s))))
-        (flatten (map optional_octets (siblings (path_in H x on)))) (optional_octets (child_of H (aside_part x s)))
-    unfolding siblings flatten
-    siblings_on = record {
-      joined =
-          rw (
-            further,
-            map-append optional_octets (siblings (path_in H x on)) (child_of H (aside_part x s) ∷ []),
-            flatten_append (map optional_octets (siblings (path_in H x on))) (optional_octets (child_of H (aside_part x s)) ∷ []),
-            append-nil (optional_octets (child_of H (aside_part x s))),
-          );
-    }
+      pub siblings_on : {l : Octets} → l ≡ aside_part s.x.now s.keys.now
+          → Joined (sibling_octets (path_by H s)) (sibling_octets (path_by H on)) (optional_octets (child_of H l))
+      unfolding siblings flatten
+      siblings_on {l} el = record {
+        joined =
+            rw (
+              further,
+              el,
+              map-append optional_octets (siblings (path_by H on)) (child_of H (aside_part s.x.now s.keys.now) ∷ []),
+              flatten_append (map optional_octets (siblings (path_by H on))) (optional_octets (child_of H (aside_part s.x.now s.keys.now)) ∷ []),
+              append-nil (optional_octets (child_of H (aside_part s.x.now s.keys.now))),
+            );
+      }
+
+-- what a function that follows the path asks for, level by level
+pub ruleset levels = (
+  shorter,
+  levels_length_here,
+  levels_length_on,
+  height_here,
+  height_on,
+  keys_here,
+  keys_on,
+  foot_here,
+  foot_on,
+  siblings_here,
+  siblings_on,
+)

@@ -1,5 +1,4 @@
 mod PartsLaws
-mod JoinLaws
 mod IssueLaws
 mod RenderLaws
 mod AttestLaws

@@ -7,8 +7,7 @@ use native.Mathlib.Omega.{arith}
 use borrow.Author.Tests.{eq-eqb, ne_eqb}
 use lib.Dec.{eqb}
 use lib.ListN.{length, drop, get_or, length-append, length-drop}
-use Rattle.answer.specs.declared.Answer.{Answer}
-use Rattle.answer.specs.declared.Answer.TheVariants.{Done}
+use Rattle.answer.specs.Answer.{Answer, Done}
 use Rattle.octets.specs.Order.{Octets}
 use Rattle.attester.specs.Record.{Child}
 use Rattle.attester.specs.Reader.{Stop, short, wrong, Read, got, stopped, after, give, many}

@@ -1,6 +1,6 @@
 -- The search in a part of the key list: it ends at the middle key, or goes on in the part on x's side. The parts of the octets are
 -- the parts of the tree.
-use mathlib.Core.Path.{◌≡◌, refl, sym, ap, ◌∙◌}
+use mathlib.Core.Path.{◌≡◌, refl, ap, ◌∙◌}
 use mathlib.Core.List.{[]}
 use mathlib.Core.Option.{none}
 use Prim.Native.Nat.{suc, ◌+◌, ◌-◌, ◌*◌, ◌/◌, ◌≤◌, ◌<◌, Ordering}
@@ -9,7 +9,9 @@ use native.Mathlib.Omega.{arith}
 use lib.ListN.{length, take, drop, length-drop}
 use lib.Seq.{take-take, length-take-le}
 use Rattle.octets.specs.Order.{Octets, order}
-use Rattle.octets.specs.declared.Order.{Order}
+use Rattle.std.specs.declared.cmp.Ordering as std
+use Rattle.std.specs.declared.cmp.Ordering.TheVariants.{Less, Equal, Greater}
+use Rattle.std.specs.Ordering.{ordering_reverse}
 use Rattle.octets.specs.Compared.{order_of}
 use Rattle.attester.specs.Entry.{key, entries}
 use Rattle.attester.specs.Tree.{tree}
@@ -22,18 +24,21 @@ use Rattle.attester.proofs.LabelLaws.{label_none}
 use Rattle.attester.proofs.SearchStepLaws.{search_entries_hit, search_entries_end_left, search_entries_end_right, search_entries_left, search_entries_right}
 use Rattle.attestation.specs.Parts.{Keyed, middle_at, middle_key, by_side, onward_part, aside_part, child_of, path_in}
 
--- the part that is told by the comparison with the middle key
-module _ (x s : Octets) {m : Octets} {r : Order} (o : Order) (is : r ≡ o) (compared : order_of r ≡ order x m) (middle : m ≡ middle_key s) where
-  told : order x (middle_key s) ≡ order_of o
-  told = ap (order x) (sym middle) ∙ sym compared ∙ ap order_of is
-
-  pub onward_is : by_side (order_of o) (take (middle_at s) s) [] (drop (middle_at s + 20) s) ≡ onward_part x s
+-- the part on x's side, and the one on the other, by the answer of the comparison with the middle key
+module _ (x s : Octets) (r : std.Ordering) (compared : order_of r ≡ order x (middle_key s)) where
+  pub onward_is : by_side (order_of r) (take (middle_at s) s) [] (drop (middle_at s + 20) s) ≡ onward_part x s
   unfolding onward_part
-  onward_is = rw told
+  onward_is = ap (λ (o : Ordering). by_side o (take (middle_at s) s) [] (drop (middle_at s + 20) s)) compared
 
-  pub aside_is : by_side (order_of o) (drop (middle_at s + 20) s) [] (take (middle_at s) s) ≡ aside_part x s
+  pub aside_is : by_side (order_of (ordering_reverse r)) (take (middle_at s) s) [] (drop (middle_at s + 20) s) ≡ aside_part x s
   unfolding aside_part
-  aside_is = rw told
+  aside_is = turned r ∙ ap (λ (o : Ordering). by_side o (drop (middle_at s + 20) s) [] (take (middle_at s) s)) compared
+    where
+      turned : (r : std.Ordering) → by_side (order_of (ordering_reverse r)) (take (middle_at s) s) [] (drop (middle_at s + 20) s)
+          ≡ by_side (order_of r) (drop (middle_at s + 20) s) [] (take (middle_at s) s)
+      turned Less = refl
+      turned Equal = refl
+      turned Greater = refl
 
 module _ (s : Octets) (k : Keyed s) where
   -- the left part holds floor(n / 2) keys, the right part those after the middle one
@@ -74,6 +79,24 @@ module _ (s : Octets) (k : Keyed s) where
   some_entry : 0 < length s / 20
   some_entry = omega (arith, k.some_key)
 
+  -- a side with keys is a key list with fewer keys
+  module _ (o : Ordering) {on : Octets} (is : on ≡ by_side o (take (middle_at s) s) [] (drop (middle_at s + 20) s)) (some : 20 ≤ length on) where
+    pub side_keyed : Keyed on
+    side_keyed = go o is
+      where
+        go : (o : Ordering) → on ≡ by_side o (take (middle_at s) s) [] (drop (middle_at s + 20) s) → Keyed on
+        go Ordering.lt e = record { some_key = some; whole = omega (arith, ap length e, left_length); few = omega (arith, ap length e, left_length, k.few) }
+        go Ordering.eq e = absurd (omega (arith, ap length e))
+        go Ordering.gt e = record { some_key = some; whole = omega (arith, ap length e, right_length, k.whole); few = omega (arith, ap length e, right_length, k.few) }
+
+    side_shorter : length on + 20 ≤ length s
+    side_shorter = go o is
+      where
+        go : (o : Ordering) → on ≡ by_side o (take (middle_at s) s) [] (drop (middle_at s + 20) s) → length on + 20 ≤ length s
+        go Ordering.lt e = omega (arith, ap length e, left_length, k.whole, k.some_key)
+        go Ordering.eq e = absurd (omega (arith, ap length e))
+        go Ordering.gt e = omega (arith, ap length e, right_length, k.whole, k.some_key)
+
   module _ (x : Octets) where
     middle_side : (o : Ordering) → order x (middle_key s) ≡ o → side x (take 20 (drop (length s / 20 / 2 * 20) s)) ≡ o
     unfolding side key
@@ -111,16 +134,6 @@ module _ (s : Octets) (k : Keyed s) where
         go Ordering.gt e g =
             rw (middle_is, left_child H, right_entries) (search_entries_right H x 20 (length s / 20) s some_entry (middle_side Ordering.gt e) (omega (arith, right_length, k.whole)))
 
-    -- what the search goes on in is a key list with fewer keys
-    pub onward_keyed : 20 ≤ length (onward_part x s) → Keyed (onward_part x s) × (length (onward_part x s) + 20 ≤ length s)
+    pub on_shorter : {on : Octets} → on ≡ onward_part x s → 20 ≤ length on → length on + 20 ≤ length s
     unfolding onward_part
-    onward_keyed h = go (order x (middle_key s)) h
-      where
-        go : (o : Ordering) → 20 ≤ length (by_side o (take (middle_at s) s) [] (drop (middle_at s + 20) s))
-            → Keyed (by_side o (take (middle_at s) s) [] (drop (middle_at s + 20) s))
-            × (length (by_side o (take (middle_at s) s) [] (drop (middle_at s + 20) s)) + 20 ≤ length s)
-        go Ordering.lt g =
-            (record { some_key = g; whole = omega (arith, left_length); few = omega (arith, left_length, k.few) }, omega (arith, left_length, k.whole, k.some_key))
-        go Ordering.eq g = absurd (omega arith)
-        go Ordering.gt g =
-            (record { some_key = g; whole = omega (arith, right_length, k.whole); few = omega (arith, right_length, k.few) }, omega (arith, right_length, k.whole, k.some_key))
+    on_shorter e some = side_shorter (order x (middle_key s)) e some

@@ -1,41 +1,73 @@
--- An attestation is five texts, one after the other: so are the writes.
-use mathlib.Core.Path.{◌≡◌, subst}
-use mathlib.Core.List.{[], ◌∷◌, ◌++◌, map, flatten, append_assoc}
-use Prim.Native.Nat.{ℕ, suc, ◌+◌, ◌-◌, ◌≤◌}
+-- An attestation is five texts, one after the other, and so are the writes: room for each, and what all have written.
+use mathlib.Core.Path.{◌≡◌, refl}
+use mathlib.Core.List.{[], ◌∷◌, ◌++◌, append_assoc}
+use Prim.Native.Nat.{ℕ, suc, ◌-◌, ◌≤◌}
 use native.Mathlib.Omega.{arith}
-use lib.ListN.{length, length-append}
+use lib.ListN.{length}
+use Rattle.octets.specs.declared.Writer.{Writer}
 use Rattle.octets.specs.Order.{Octets}
-use Rattle.octets.specs.Put.{Wrote}
-use Rattle.octets.proofs.PutLaws.{wrote_more}
-use Rattle.attester.specs.Path.{Path, foot_left, foot_right, height, keys, siblings}
-use Rattle.attester.specs.Attestation.{optional_octets, render}
-use Rattle.attestation.proofs.JoinLaws.{wrote_same}
+use Rattle.octets.specs.Writer.{HasRoom, Writes}
+use Rattle.octets.proofs.WriterLaws.{Joined, room_first, room_second, writes_both}
+use Rattle.attester.specs.Path.{Path, height}
+use Rattle.attester.specs.Attestation.{render}
+use Rattle.attestation.specs.Parts.{key_octets, foot_octets, sibling_octets}
 
-module _ (p : Path) where
-  abbrev foot_octets : Octets
-  foot_octets = optional_octets (foot_left p) ++ optional_octets (foot_right p)
+pub count_room : (p : Path) {n : ℕ} → length (render p) ≤ n → 1 ≤ n
+unfolding render
+count_room p h = omega arith
 
-  abbrev sibling_octets : Octets
-  sibling_octets = flatten (map optional_octets (siblings p))
+module _ (p : Path) {k : ℕ} (is : k ≡ suc (height p)) where
+  abbrev from_count : Octets
+  from_count = ((k - 1) ∷ []) ++ sibling_octets p
 
-  render_parts : render p ≡ (suc (height p) ∷ []) ++ flatten (keys p) ++ foot_octets ++ (height p ∷ []) ++ sibling_octets
+  abbrev from_foot : Octets
+  from_foot = foot_octets p ++ from_count
+
+  abbrev from_keys : Octets
+  from_keys = key_octets p ++ from_foot
+
+  whole : Joined (render p) (k ∷ []) from_keys
   unfolding render
-  render_parts = simp append_assoc
+  whole = let above : k - 1 ≡ height p = omega arith in record { joined = rw (above, is) (simp append_assoc) }
 
-  pub render_sum : length (render p) ≡ 1 + length (flatten (keys p)) + length foot_octets + 1 + length sibling_octets
-  render_sum = rw render_parts (simp length-append (omega arith))
+  keys_first : Joined from_keys (key_octets p) from_foot
+  keys_first = record { joined = refl }
 
-  pub render_written : {k a b c e r : ℕ} {d d₁ d₂ d₃ d₄ o : Octets} → k ≡ suc (height p) → length (render p) ≤ length d
-      → Wrote d 0 (k ∷ []) d₁ a → Wrote d₁ a (flatten (keys p)) d₂ b → Wrote d₂ b foot_octets d₃ c
-      → Wrote d₃ c ((k - 1) ∷ []) d₄ e → Wrote d₄ e sibling_octets o r → Wrote d 0 (render p) o r
-  render_written {k} {a} {b} {c} {e} {r} {d} {d₁} {d₂} {d₃} {d₄} {o} is room w₁ w₂ w₃ w₄ w₅ =
-      let above : k - 1 ≡ height p = omega arith in
-      let t₁ : Octets = (suc (height p) ∷ []) ++ flatten (keys p) in
-      let n₁ = length-append (suc (height p) ∷ []) (flatten (keys p)) in
-      let n₂ = length-append t₁ foot_octets in
-      let n₃ = length-append (t₁ ++ foot_octets) (height p ∷ []) in
-      let first = subst (λ (q : ℕ). Wrote d 0 (q ∷ []) d₁ a) is w₁ in
-      let fourth = subst (λ (q : ℕ). Wrote d₃ c (q ∷ []) d₄ e) above w₄ in
-      wrote_same render_parts (
-      wrote_more (wrote_more (wrote_more (wrote_more first w₂ (omega (arith, render_sum))) w₃ (omega (arith, render_sum, n₁))) fourth (omega (arith, render_sum, n₁, n₂)))
-      w₅ (omega (arith, render_sum, n₁, n₂, n₃)))
+  foot_first : Joined from_foot (foot_octets p) from_count
+  foot_first = record { joined = refl }
+
+  count_first : Joined from_count ((k - 1) ∷ []) (sibling_octets p)
+  count_first = record { joined = refl }
+
+  module _ {w w₁ : Writer} (h₁ : Writes w (k ∷ []) w₁) (front : w.at ≡ 0) (fits : length (render p) ≤ length w.out.now) where
+    room : HasRoom w (render p)
+    room = omega (arith, front, fits)
+
+    room₁ : HasRoom w₁ from_keys
+    room₁ = room_second whole w room h₁
+
+    pub keys_room : HasRoom w₁ (key_octets p)
+    keys_room = room_first keys_first w₁ room₁
+
+    module _ {w₂ : Writer} (h₂ : Writes w₁ (key_octets p) w₂) where
+      room₂ : HasRoom w₂ from_foot
+      room₂ = room_second keys_first w₁ room₁ h₂
+
+      pub foot_room : HasRoom w₂ (foot_octets p)
+      foot_room = room_first foot_first w₂ room₂
+
+      module _ {w₃ : Writer} (h₃ : Writes w₂ (foot_octets p) w₃) where
+        room₃ : HasRoom w₃ from_count
+        room₃ = room_second foot_first w₂ room₂ h₃
+
+        pub siblings_count_room : HasRoom w₃ ((k - 1) ∷ [])
+        siblings_count_room = room_first count_first w₃ room₃
+
+        module _ {w₄ : Writer} (h₄ : Writes w₃ ((k - 1) ∷ []) w₄) where
+          pub siblings_room : HasRoom w₄ (sibling_octets p)
+          siblings_room = room_second count_first w₃ room₃ h₄
+
+          pub render_written : {w₅ : Writer} → Writes w₄ (sibling_octets p) w₅ → Writes w (render p) w₅
+          render_written h₅ =
+              writes_both whole w room h₁
+              (writes_both keys_first w₁ room₁ h₂ (writes_both foot_first w₂ room₂ h₃ (writes_both count_first w₃ room₃ h₄ h₅)))

@@ -1,46 +1,42 @@
 -- Octets of the form, in the code's terms: every part stands inside them, an optional label is what its count says, and the
 -- climb from the foot takes one key and one sibling a level.
 use mathlib.Core.Path.{◌≡◌, refl, sym, ap, ◌∙◌}
-use mathlib.Core.Bool.{Bool}
-use mathlib.Core.List.{◌∷◌, ◌++◌}
+use mathlib.Core.HLevel.{⊥_prop}
+use mathlib.Core.Logic.{∥∥₁_elim}
 use mathlib.Core.Option.{none, some}
-use Prim.Native.Nat.{ℕ, suc, ◌+◌, ◌-◌, ◌*◌, ◌≤◌, ◌<◌}
+use Prim.Native.Nat.{ℕ, suc, ◌+◌, ◌*◌, ◌≤◌, ◌<◌}
 use native.Mathlib.Decide.{dec_le}
 use native.Mathlib.Nat.{le_refl}
 use native.Mathlib.Omega.{arith}
 use borrow.Author.Tests.{eq-eqb, ne_eqb, lt-ltb, le-ltb}
 use lib.Dec.{ltb}
-use lib.ListN.{length, take, drop, get_or, replicate, length-drop, length-take, length-replicate}
+use lib.ListN.{length, take, drop, get_or, length-drop, length-take}
 use lib.Seq.{take-take}
 use Rattle.octets.specs.Order.{Octets}
-use Rattle.octets.specs.Put.{Wrote}
-use Rattle.octets.proofs.PutLaws.{put_end}
 use Rattle.attester.specs.Entry.{key}
-use Rattle.attester.specs.Record.{Child, bit, flag, child_octets, node_record}
+use Rattle.attester.specs.Record.{Child, bit}
 use Rattle.attester.specs.Path.{Path, foot, step}
+use Rattle.attester.specs.Form.{Form, formed, ended, spoilt, form, path_read}
+use Rattle.attester.specs.Form as forms
 use Rattle.attester.proofs.OffsetLaws.{OptionalAt, optional_wrong, optional_none, optional_some, optional_cut}
 use Rattle.attester.proofs.LayoutLaws.{layout, Climbing, climb_start, climb_next}
-use Rattle.tree.specs.Labels.{one_if, flag_of}
+use Rattle.tree.specs.Labels.{one_if}
 use Rattle.tree.specs.Edition.{width}
 use Rattle.attestation.specs.Shown.{shown, Formed, key_at, child_at, behind, left_at, right_at, count_at}
 
 -- An optional label, by its count
 
 module _ (a : Octets) (at : ℕ) where
-  pub behind_none : get_or a at 0 ≡ 0 → behind a at ≡ suc at
-  unfolding behind
+  behind_none : get_or a at 0 ≡ 0 → behind a at ≡ suc at
   behind_none e = rw (eq-eqb (get_or a at 0) 0 e)
 
-  pub behind_some : (get_or a at 0 ≡ 0 → ⊥) → behind a at ≡ at + 33
-  unfolding behind
+  behind_some : (get_or a at 0 ≡ 0 → ⊥) → behind a at ≡ at + 33
   behind_some n = rw (ne_eqb (get_or a at 0) 0 n)
 
-  pub child_none : get_or a at 0 ≡ 0 → child_at a at ≡ none
-  unfolding child_at
+  child_none : get_or a at 0 ≡ 0 → child_at a at ≡ none
   child_none e = rw (eq-eqb (get_or a at 0) 0 e)
 
-  pub child_some : (get_or a at 0 ≡ 0 → ⊥) → child_at a at ≡ some (take 32 (drop (suc at) a))
-  unfolding child_at
+  child_some : (get_or a at 0 ≡ 0 → ⊥) → child_at a at ≡ some (take 32 (drop (suc at) a))
   child_some n = rw (ne_eqb (get_or a at 0) 0 n)
 
   pub child_bit : one_if (ltb 0 (get_or a at 0)) ≡ bit (child_at a at)
@@ -51,11 +47,11 @@ module _ (a : Octets) (at : ℕ) where
       ]
 
   -- the label that was read there
-  pub record There (c : Child) (next : ℕ) : Type 0 where
+  record There (c : Child) (next : ℕ) : Type 0 where
     pub is : c ≡ child_at a at
     pub ends : next ≡ behind a at
 
-  pub there : (next : ℕ) (o : OptionalAt a at next) → There o.child next
+  there : (next : ℕ) (o : OptionalAt a at next) → There o.child next
   there next o =
       let inside : at < length a = omega (arith, o.further, o.inside) in
       elim (dec_le (get_or a at 0) 0) [
@@ -104,30 +100,6 @@ module _ (a : Octets) (at : ℕ) where
                 absurd (omega arith)
           ]
 
--- its octets in a record, as the code writes them over 32 zeros
-
-module _ (a : Octets) (at : ℕ) where
-  pub child_absent : (0 < get_or a at 0 → ⊥) → replicate {A = ℕ} 32 0 ≡ child_octets (child_at a at)
-  unfolding child_octets
-  child_absent n = rw (child_none a at (omega arith))
-
-  pub child_written : {d : Octets} {e : ℕ} → 0 < get_or a at 0 → at + 33 ≤ length a
-      → Wrote (replicate {A = ℕ} 32 0) 0 (take (at + 33 - (at + 1)) (drop (at + 1) a)) d e → d ≡ child_octets (child_at a at)
-  unfolding child_octets
-  child_written {d} {e} h k w =
-      let n : at + 33 - (at + 1) ≡ 32 = omega arith in
-      let m : at + 1 ≡ suc at = omega arith in
-      let long : length (take 32 (drop (suc at) a)) ≡ 32 = simp (length-take, length-drop) (omega arith) in
-      let v : Wrote (replicate {A = ℕ} 32 0) 0 (take 32 (drop (suc at) a)) d e = rw (n, m) at w in
-      v.left ∙ put_end (replicate {A = ℕ} 32 0) 0 (take 32 (drop (suc at) a)) (rw (length-replicate {A = ℕ} 32 0, long) (omega arith)) ∙ rw (child_some a at (λ e. omega arith))
-
--- The record of a node whose two children the code has as octets, each with whether it is there
-
-pub record_is : {f : ℕ} {rec l r : Octets} (c : Child) (k : Octets) (e : Child) (b d : Bool) → f ≡ flag_of b d → one_if b ≡ bit c → one_if d ≡ bit e
-    → l ≡ child_octets c → r ≡ child_octets e → rec ≡ f ∷ (l ++ (k ++ r)) → rec ≡ node_record c k e
-unfolding node_record flag
-record_is c k e b d ef eb ed el er erec = rw (erec, ef, eb, ed, el, er)
-
 -- Where the sections stand
 
 pub record Laid (a : Octets) : Type 0 where
@@ -139,10 +111,23 @@ pub record Laid (a : Octets) : Type 0 where
   pub count_in : count_at a < length a
   pub climbing : Climbing width a (shown a) 0 (suc (count_at a)) (foot (key_at a 0) (child_at a (left_at a)) (child_at a (right_at a)))
 
-pub laid : (a : Octets) → Formed a → Laid a
-unfolding left_at right_at count_at key_at
-laid a f =
-    let o = layout width a (shown a) f in
+-- the form tells whether octets have it: so that they have it holds in one way at most
+formed_of : (a : Octets) → ∥ Formed a ∥₁ → Formed a
+unfolding forms.shown
+formed_of a t = go (form width a) refl
+  where
+    -- octets of another form have not this one
+    other : (f : Form) → form width a ≡ f → (f ≡ formed (shown a) → ⊥) → Formed a
+    other f e n = absurd (∥∥₁_elim t ⊥_prop (λ g. n (sym e ∙ g)))
+
+    go : (f : Form) → form width a ≡ f → Formed a
+    go (formed p) e = e ∙ ap formed (sym (ap path_read e))
+    go (ended n) e = other (ended n) e (λ g. let z : ◌≡◌ {A = ℕ} 0 1 = cc in omega arith)
+    go (spoilt n) e = other (spoilt n) e (λ g. let z : ◌≡◌ {A = ℕ} 0 1 = cc in omega arith)
+
+pub laid : {a : Octets} → ∥ Formed a ∥₁ → Laid a
+laid {a} f =
+    let o = layout width a (shown a) (formed_of a f) in
     let at_left : 1 + get_or a 0 0 * 20 ≡ 1 + 20 * get_or a 0 0 = omega arith in
     let left = there a (1 + get_or a 0 0 * 20) o.left_end o.left in
     let at_right : o.left_end ≡ behind a (1 + 20 * get_or a 0 0) = left.ends ∙ ap (behind a) at_left in
@@ -164,40 +149,15 @@ laid a f =
     same_foot : {e : Octets} {l m r q : Child} → l ≡ m → r ≡ q → foot e l r ≡ foot e m q
     same_foot g h = cc
 
--- the offsets, as the code goes from one to the next
-pub left_is : (a : Octets) → 1 + 20 * get_or a 0 0 ≡ left_at a
-unfolding left_at
-left_is a = refl
-
-pub right_is : (a : Octets) {l r : ℕ} → l ≡ left_at a → r ≡ behind a l → r ≡ right_at a
-unfolding right_at
-right_is a e f = f ∙ ap (behind a) e
-
-pub count_is : (a : Octets) {l r n : ℕ} → l ≡ left_at a → r ≡ behind a l → n ≡ behind a r → n ≡ count_at a
-unfolding count_at
-count_is a e f g = g ∙ ap (behind a) (right_is a e f)
-
--- the foot's record, as the code puts it together
-pub foot_recorded : (a : Octets) {l r f : ℕ} {left k right rec : Octets} → l ≡ left_at a → r ≡ behind a l
-    → f ≡ flag_of (ltb 0 (get_or a l 0)) (ltb 0 (get_or a r 0)) → left ≡ child_octets (child_at a l) → k ≡ key_at a 0
-    → right ≡ child_octets (child_at a r) → rec ≡ f ∷ (left ++ (k ++ right))
-    → rec ≡ node_record (child_at a (left_at a)) (key_at a 0) (child_at a (right_at a))
-foot_recorded a {l} {r} {f} {left} {k} {right} {rec} el er ef eleft ek eright erec =
-    rw (← el, ← right_is a el er, ← ek)
-    (record_is (child_at a l) k (child_at a r) (ltb 0 (get_or a l 0)) (ltb 0 (get_or a r 0)) ef (child_bit a l) (child_bit a r) eleft eright erec)
-
--- what the code takes for kj
-pub key_part : (a : Octets) (j : ℕ) → take (21 + 20 * j - (1 + 20 * j)) (drop (1 + 20 * j) a) ≡ key_at a j
-unfolding key_at
-key_part a j = let n : 21 + 20 * j - (1 + 20 * j) ≡ 20 = omega arith in rw n
-
 pub key_length : (a : Octets) (j : ℕ) → 21 + 20 * j ≤ length a → length (key_at a j) ≡ 20
-unfolding key_at
 key_length a j h = simp (length-take, length-drop) (omega arith)
+
+-- what the parts are taken by
+pub ruleset layout_laws = (laid, key_length, child_bit)
 
 -- kj is its own key
 pub key_of : (a : Octets) (j : ℕ) → key (key_at a j) ≡ key_at a j
-unfolding key key_at
+unfolding key
 key_of a j = take-take 20 20 (drop (1 + 20 * j) a) (le_refl 20)
 
 -- One level up
@@ -209,7 +169,6 @@ module _ (a : Octets) (p : Path) (j at : ℕ) (q : Path) (c : Climbing width a p
     pub climbing : Climbing width a p (suc j) (behind a at) (step (key_at a (suc j)) (child_at a at) q)
 
   pub higher : Higher
-  unfolding key_at
   higher =
       let n = climb_next width a p j at q c h in
       let t = there a at n.next n.sibling in

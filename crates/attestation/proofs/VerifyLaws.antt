@@ -4,11 +4,9 @@ use mathlib.Core.Bool.{true, false}
 use mathlib.Core.Logic.{◌⊎◌, inl, inr}
 use Prim.Native.Nat.{ℕ}
 use lib.ListN.{length}
-use Rattle.answer.specs.declared.Answer.{Answer}
-use Rattle.answer.specs.declared.Answer.TheVariants.{Done}
-use Rattle.answer.specs.declared.Answer.TheVariants as answer
-use Rattle.answer.specs.declared.Verdict.{Verdict}
-use Rattle.answer.specs.declared.Verdict.TheVariants.{Refused}
+use Rattle.answer.specs.Answer.{Answer, Done}
+use Rattle.answer.specs.Answer as answer
+use Rattle.answer.specs.Verdict.{Verdict, Refused}
 use Rattle.answer.specs.Refusals.{size, unknown_profile}
 use Rattle.answer.specs.Refusals as refusal
 use Rattle.octets.specs.Order.{Octets}

@@ -1,8 +1,6 @@
 -- The promise of `attest` (01, "Numbers a caller can meet"; 02, vi).
 use Rattle.std.specs.Prelude.{◌≡◌, cond, ℕ, eqb, leb, length}
-use Rattle.answer.specs.declared.Answer.{Answer}
-use Rattle.answer.specs.declared.Answer.TheVariants.{Done, Refused}
-use Rattle.answer.specs.Answer.{written}
+use Rattle.answer.specs.Answer.{Answer, Done, Refused, written}
 use Rattle.answer.specs.Refusals.{size, too_short}
 use Rattle.octets.specs.Order.{Octets}
 use Rattle.profile.specs.Profile.{label, in_profile}

@@ -1,7 +1,6 @@
 -- What the reading of an attestation's sections answers: an offset to go on from, or refusal 7 and its place.
 use Rattle.std.specs.Prelude.{List, ℕ, ◌-◌, eqb, length}
-use Rattle.answer.specs.declared.Answer.{Answer}
-use Rattle.answer.specs.declared.Answer.TheVariants.{Done, Refused}
+use Rattle.answer.specs.Answer.{Answer, Done, Refused}
 use Rattle.answer.specs.Refusals as refusal
 use Rattle.octets.specs.Order.{Octets}
 use Rattle.attester.specs.Record.{Child}

@@ -1,4 +1,5 @@
 pub mod Parts
+pub mod Search
 pub mod Attest
 pub mod Form
 pub mod Shown

@@ -1,12 +1,14 @@
 -- The search's path in the code's terms: a key list as octets, parted at its middle key.
-use Rattle.std.specs.Prelude.{[], ◌≡◌, length, take, drop}
+use Rattle.std.specs.Prelude.{[], ◌++◌, ◌≡◌, length, map, take, drop}
+use mathlib.Core.List.{flatten}
 use Prim.Native.Nat.{ℕ, ◌+◌, ◌*◌, ◌/◌, ◌%◌, ◌≤◌, Ordering}
 use Rattle.octets.specs.Order.{Octets, order}
 use Rattle.attester.specs.Entry.{entries}
 use Rattle.attester.specs.Record.{Child}
 use Rattle.attester.specs.Tree.{tree}
 use Rattle.attester.specs.Label.{label}
-use Rattle.attester.specs.Path.{Path}
+use Rattle.attester.specs.Path.{Path, foot_left, foot_right, keys, siblings}
+use Rattle.attester.specs.Attestation.{optional_octets}
 use Rattle.attester.specs.Search.{search}
 use Rattle.tree.specs.Edition.{width, most}
 
@@ -45,3 +47,15 @@ child_of H s = label H (tree (entries width (length s / width) s))
 -- the path of the search for x among these keys, by the label function H
 unfoldable pub path_in : (Octets → Octets) → Octets → Octets → Path
 path_in H x s = search H x (tree (entries width (length s / width) s))
+
+-- what the sections hold (01, "The attestation"), but for their counts: the keys
+abbrev pub key_octets : Path → Octets
+key_octets p = flatten (keys p)
+
+-- the foot's left label and its right one
+abbrev pub foot_octets : Path → Octets
+foot_octets p = optional_octets (foot_left p) ++ optional_octets (foot_right p)
+
+-- the siblings
+abbrev pub sibling_octets : Path → Octets
+sibling_octets p = flatten (map optional_octets (siblings p))

@@ -1,7 +1,6 @@
 -- The promise of `verify` (01, "Verdict"; 02, vi).
 use Rattle.std.specs.Prelude.{◌≡◌, ℕ}
-use Rattle.answer.specs.declared.Verdict.{Verdict}
-use Rattle.answer.specs.declared.Verdict.TheVariants.{Present, Absent, Refused}
+use Rattle.answer.specs.Verdict.{Verdict, Present, Absent, Refused}
 use Rattle.octets.specs.Order.{Octets}
 use Rattle.profile.specs.Profile.{label, in_profile}
 use Rattle.attester.specs.Verdict.{Judgement, present, absent, refused}

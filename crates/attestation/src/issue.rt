@@ -1,116 +1,117 @@
 // Issuing an attestation: the path of the search is followed down the halves of the key list, and its sections are written
 // as the calls come back, so that the foot stands first. Where a contract is over any H, the labels do not matter.
-ghost use Rattle.std.specs.Prelude.{◌≡◌, suc, ◌+◌, ◌*◌, ◌≤◌, length};
-ghost use mathlib.Core.List.{◌++◌, map, flatten};
+#![tactic(auto, using(octets::proofs::WriterLaws::pieces, crate::proofs::IssueLaws::levels))]
+
+ghost use Rattle.std.specs.Prelude.{◌≡◌, suc, ◌≤◌, length};
 ghost use Rattle.octets.specs.Put.{Wrote};
+ghost use Rattle.octets.specs.Writer.{HasRoom, Writes};
 ghost use Rattle.octets.specs.Order.{Octets};
 ghost use Rattle.profile.specs.Profile.{label};
+ghost use Rattle.profile.specs.Named.{number_of_profile};
 ghost use Rattle.attester.specs.Record.{bit};
-ghost use Rattle.attester.specs.Path.{foot_left, foot_right, height, siblings};
-ghost use Rattle.attester.specs.Path as path;
+ghost use Rattle.attester.specs.Path.{height};
 ghost use Rattle.attester.specs.Attestation.{optional_octets, render};
 ghost use Rattle.attester.proofs.LengthLaws.{levels_length};
 ghost use Rattle.tree.specs.Edition.{width};
-ghost use Rattle.attestation.specs.Parts.{Keyed, child_of, path_in};
+ghost use Rattle.attestation.specs.Parts.{child_of, key_octets, foot_octets, sibling_octets};
+ghost use Rattle.attestation.specs.Search.{path_by, path_of};
 
-use crate::parts::{after, aside, before, middle, onward};
+use crate::parts::Search;
+use octets::Writer;
+use profile::Profile;
 
 // 1 if these keys make a child, 0 if there are none.
+#[tactic(auto, using(crate::proofs::IssueLaws::child_none, crate::proofs::IssueLaws::child_bit))]
 fn child_bit(keys: &[u8]) -> usize
     ensures { ((H : Octets → Octets) → result ≡ bit (child_of H keys.now)) × (result ≤ 1) }
 {
-    if keys.len() < 20 { 0 } else { 1 }
+    usize::from(20 <= keys.len())
 }
 
-// How many octets the levels of x's path take: each a key, a count and its labels.
-pub fn levels_length(keys: &[u8], x: &[u8]) -> usize
-    requires { Keyed keys.now }
-    ensures { (H : Octets → Octets) → result ≡ levels_length width (path_in H x.now keys.now) }
+// The five that follow the path stay five: each does another thing on the way back, and a closure for that would need what they now
+// promise in its own clauses.
+
+// How many octets the levels of the path take: each a key, a count and its labels.
+pub fn levels_length(search: Search<'_>) -> usize
+    ensures { (H : Octets → Octets) → result ≡ levels_length width (path_by H search.entry) }
 {
-    let on = onward(keys, x);
-    if on.len() < 20 {
-        return 21 + 32 * (child_bit(before(keys)) + child_bit(after(keys)));
+    match search.onward() {
+        Some(on) => 21 + 32 * child_bit(search.aside()) + levels_length(on),
+        None => 21 + 32 * (child_bit(search.before()) + child_bit(search.after())),
     }
-    21 + 32 * child_bit(aside(keys, x)) + levels_length(on, x)
 }
 
-// How many keys stand on x's path.
-fn levels(keys: &[u8], x: &[u8]) -> usize
-    requires { Keyed keys.now }
-    ensures { (H : Octets → Octets) → result ≡ suc (height (path_in H x.now keys.now)) }
+// How many keys stand on the path.
+fn levels(search: Search<'_>) -> u8
+    ensures { (H : Octets → Octets) → result ≡ suc (height (path_by H search.entry)) }
 {
-    let on = onward(keys, x);
-    if on.len() < 20 {
-        return 1;
+    match search.onward() {
+        Some(on) => levels(on) + 1,
+        None => 1,
     }
-    levels(on, x) + 1
 }
 
-// Writes the keys of x's path from index at on, the foot's first.
-fn put_keys(out: &mut [u8], at: usize, keys: &[u8], x: &[u8]) -> usize
-    requires { Keyed keys.now × ((H : Octets → Octets) → at + length (flatten (path.keys (path_in H x.now keys.now))) ≤ length out.old) }
-    ensures { (H : Octets → Octets) → Wrote out.old at (flatten (path.keys (path_in H x.now keys.now))) out.new result }
+// Writes the keys of the path, the foot's first.
+fn put_keys(search: Search<'_>, w: &mut Writer<'_>)
+    requires { (H : Octets → Octets) → HasRoom w.old (key_octets (path_by H search)) }
+    ensures { (H : Octets → Octets) → Writes w.old (key_octets (path_by H search.entry)) w.new }
 {
-    let on = onward(keys, x);
-    if on.len() < 20 {
-        return octets::put(out, at, middle(keys));
+    if let Some(on) = search.onward() {
+        put_keys(on, w);
     }
-    let p = put_keys(out, at, on, x);
-    octets::put(out, p, middle(keys))
+    w.put(search.middle());
 }
 
-// Writes the optional label of the subtree of these keys from index at on.
-fn put_optional(profile: u32, out: &mut [u8], at: usize, keys: &[u8]) -> usize
-    requires { at + length (optional_octets (child_of (label profile) keys.now)) ≤ length out.old }
-    ensures { Wrote out.old at (optional_octets (child_of (label profile) keys.now)) out.new result }
+// Writes the optional label of the subtree of these keys.
+#[tactic(auto, using(octets::proofs::WriterLaws::pieces, crate::proofs::IssueLaws::optional_none, crate::proofs::IssueLaws::optional_some))]
+fn put_optional(profile: Profile, keys: &[u8], w: &mut Writer<'_>)
+    requires { HasRoom w.old (optional_octets (child_of (label (number_of_profile profile)) keys.now)) }
+    ensures { Writes w.old (optional_octets (child_of (label (number_of_profile profile)) keys.now)) w.new }
 {
     if keys.len() < 20 {
-        let none = [0u8];
-        return octets::put(out, at, &none);
+        w.put(&[0]);
+    } else {
+        w.put(&[1]);
+        w.put(&tree::labels::tree_label(profile, keys));
     }
-    let one = [1u8];
-    let p = octets::put(out, at, &one);
-    let label = tree::labels::label(profile, keys);
-    octets::put(out, p, &label)
 }
 
-// Writes the optional labels of the foot's two children from index at on.
-fn put_foot(profile: u32, out: &mut [u8], at: usize, keys: &[u8], x: &[u8]) -> usize
-    requires { Keyed keys.now × (at + length (optional_octets (foot_left (path_in (label profile) x.now keys.now)) ++ optional_octets (foot_right (path_in (label profile) x.now keys.now))) ≤ length out.old) }
-    ensures { Wrote out.old at (optional_octets (foot_left (path_in (label profile) x.now keys.now)) ++ optional_octets (foot_right (path_in (label profile) x.now keys.now))) out.new result }
+// Writes the optional labels of the foot's two children.
+fn put_foot(profile: Profile, search: Search<'_>, w: &mut Writer<'_>)
+    requires { HasRoom w.old (foot_octets (path_of profile search)) }
+    ensures { Writes w.old (foot_octets (path_of profile search.entry)) w.new }
 {
-    let on = onward(keys, x);
-    if on.len() < 20 {
-        let p = put_optional(profile, out, at, before(keys));
-        return put_optional(profile, out, p, after(keys));
+    match search.onward() {
+        Some(on) => put_foot(profile, on, w),
+        None => {
+            put_optional(profile, search.before(), w);
+            put_optional(profile, search.after(), w);
+        }
     }
-    put_foot(profile, out, at, on, x)
 }
 
-// Writes the siblings of x's path from index at on, the lowest first.
-fn put_siblings(profile: u32, out: &mut [u8], at: usize, keys: &[u8], x: &[u8]) -> usize
-    requires { Keyed keys.now × (at + length (flatten (map optional_octets (siblings (path_in (label profile) x.now keys.now)))) ≤ length out.old) }
-    ensures { Wrote out.old at (flatten (map optional_octets (siblings (path_in (label profile) x.now keys.now)))) out.new result }
+// Writes the siblings of the path, the lowest first.
+fn put_siblings(profile: Profile, search: Search<'_>, w: &mut Writer<'_>)
+    requires { HasRoom w.old (sibling_octets (path_of profile search)) }
+    ensures { Writes w.old (sibling_octets (path_of profile search.entry)) w.new }
 {
-    let on = onward(keys, x);
-    if on.len() < 20 {
-        return at;
+    if let Some(on) = search.onward() {
+        put_siblings(profile, on, w);
+        put_optional(profile, search.aside(), w);
     }
-    let p = put_siblings(profile, out, at, on, x);
-    put_optional(profile, out, p, aside(keys, x))
 }
 
-// Writes the attestation in a profile for x to the front of out.
-pub fn put_attestation(profile: u32, out: &mut [u8], keys: &[u8], x: &[u8]) -> usize
-    requires { Keyed keys.now × (length (render (path_in (label profile) x.now keys.now)) ≤ length out.old) }
-    ensures { Wrote out.old 0 (render (path_in (label profile) x.now keys.now)) out.new result }
+// Writes the attestation in a profile to the front of out.
+pub fn put_attestation(profile: Profile, search: Search<'_>, out: &mut [u8]) -> usize
+    requires { length (render (path_of profile search)) ≤ length out.old }
+    ensures { Wrote out.old 0 (render (path_of profile search.entry)) out.new result }
 {
-    let k = levels(keys, x);
-    let count = [k as u8];
-    let a = octets::put(out, 0, &count);
-    let b = put_keys(out, a, keys, x);
-    let c = put_foot(profile, out, b, keys, x);
-    let above = [(k - 1) as u8];
-    let d = octets::put(out, c, &above);
-    put_siblings(profile, out, d, keys, x)
+    let mut w = Writer { out, at: 0 };
+    let k = levels(search);
+    w.put(&[k]);
+    put_keys(search, &mut w);
+    put_foot(profile, search, &mut w);
+    w.put(&[k - 1]);
+    put_siblings(profile, search, &mut w);
+    w.at
 }

@@ -7,16 +7,15 @@ use Prim.Native.Nat.{ℕ, zero, suc, ◌*◌, ◌≤◌, ◌<◌}
 use native.Mathlib.Omega.{arith}
 use borrow.Author.Tests.{ltb-false, eqb-true, eqb-false}
 use lib.Dec.{ltb, eqb}
-use lib.ListN.{length, take, drop, length-append}
-use Rattle.answer.specs.declared.Answer.TheVariants.{Done}
+use lib.ListN.{length, take, drop}
+use Rattle.answer.specs.Answer.{Done}
 use Rattle.octets.specs.Order.{Octets, same}
 use Rattle.codes.specs.Code.{key_of}
 use Rattle.codes.specs.Count.{is_count, number}
 use Rattle.codes.specs.Text.{Reading, accepted, refused, ended, line, rest, fault, more, codes, counted, second_line, opening, reading}
 use Rattle.codes.specs.Read.{answer, keys}
 use Rattle.codes.proofs.Tests.{both, passed, held}
-use Rattle.codes.proofs.CodeLaws.{key_of_length}
-use Rattle.codes.proofs.TextLaws.{code_parts, sound_line, opens_length}
+use Rattle.codes.proofs.TextLaws.{code_parts, sound_line}
 
 pub record Accepted (room : ℕ) (s : Octets) (ks : List Octets) : Type 0 where
   pub short : length s ≤ 65535
@@ -100,32 +99,24 @@ codes_sound (suc n) p b s ks e =
     let t = codes_sound n (suc p) (some (key_of (line s))) (rest s) m.others m.is in
     ((l.is_ended, (code_parts (line s) l.code).few, t.0), m.whole ∙ ap (λ (js : List Octets). key_of (line s) ∷ js) t.1)
 
-pub flatten_length : (n : ℕ) (s : Octets) → Sound n s → length (flatten (line_keys n s)) ≡ 20 * n
-unfolding flatten line_keys
-flatten_length zero s h = refl
-flatten_length (suc n) s h = simp length-append (omega (arith, flatten_length n (rest s) h.2, key_of_length (line s) h.1))
-
 -- Writing
 
--- what a text that is to be written must give the writer
-pub record Writable (room : ℕ) (text : Octets) (n : ℕ) : Type 0 where
-  pub long : 6 ≤ length text
-  pub second_ended : ended (drop 6 text) ≡ true
-  pub sound : Sound n (rest (drop 6 text))
-  pub all_keys : keys (reading room text) ≡ flatten (line_keys n (rest (drop 6 text)))
+-- accepted code lines are sound, and their keys are what is written
+pub accepted_codes : (n : ℕ) (s : Octets) → answer (codes n 3 none s) ≡ Done n → Sound n s × (keys (codes n 3 none s) ≡ flatten (line_keys n s))
+unfolding keys
+accepted_codes n s e =
+    let t = answer_done (codes n 3 none s) n e in
+    let c = codes_sound n 3 none s t.those t.is in
+    (c.0, rw t.is (ap flatten c.1))
+
+-- an accepted text leaves room for its keys
+pub record Writable (room n : ℕ) : Type 0 where
   pub fits : 20 * n ≤ room
 
-pub writable : (room : ℕ) (text : Octets) (n : ℕ) → answer (reading room text) ≡ Done n → Writable room text n
-unfolding keys
+pub writable : (room : ℕ) (text : Octets) (n : ℕ) → answer (reading room text) ≡ Done n → Writable room n
 writable room text n e =
     let t = answer_done (reading room text) n e in
     let a = reading_accepted room text t.is in
     let c = codes_sound (number (line (drop 6 text))) 3 none (rest (drop 6 text)) t.those a.body in
     let m : number (line (drop 6 text)) ≡ n = sym (ap length c.1 ∙ line_keys_length (number (line (drop 6 text))) (rest (drop 6 text))) ∙ t.many in
-    record {
-      long = opens_length text a.opens;
-      second_ended = a.second_ended;
-      sound = rw m at c.0;
-      all_keys = rw t.is (rw m at (ap flatten c.1));
-      fits = omega (arith, a.fits);
-    }
+    record { fits = omega (arith, a.fits) }

@@ -1,79 +1,61 @@
--- Tests that go through a string from the front: what is left gives what the whole gives.
+-- Hyphens are apart if no two neighbours are hyphens, the neighbours being what `windows` gives; and how long a key is.
 use mathlib.Core.Path.{◌≡◌, ◌∙◌}
 use mathlib.Core.Bool.{Bool, true, false, ◌&&◌, not, and-false}
-use mathlib.Core.List.{[], ◌∷◌}
-use Prim.Native.Nat.{ℕ, zero, suc, ◌+◌, ◌-◌, ◌≤◌, ◌<◌}
-use native.Mathlib.Numerals.{add-one}
+use mathlib.Core.List.{List, [], ◌∷◌}
+use Rattle.std.specs.Slice.Iter.{windows_rest, windows_size, windows_steps}
+use Rattle.std.specs.declared.slice.Windows.{Windows}
+use Rattle.std.specs.List.{list_any}
+use Rattle.std.proofs.Common.{refl, subst, ap, eqb, ◌||◌, take, Some, None, Bor}
+use Rattle.std.proofs.lemmas.Iterator.{YieldsList}
+use Rattle.std.proofs.lemmas.Iterator.Splits.{YieldsList-from_shown_while}
+use Prim.Native.Nat.{ℕ, ◌≤◌, ◌<◌}
 use native.Mathlib.Omega.{arith}
-use borrow.Author.Tests.{le-leb, lt-leb}
-use lib.ListN.{length, drop, get_or, replicate, length-append, length-replicate, drop_of_length-le, get_or-eq_default}
-use lib.Seq.{drop-cons, get_or-drop}
+use lib.ListN.{length, drop, get_or, length-append, length-replicate}
 use Rattle.octets.specs.Order.{Octets}
-use Rattle.octets.specs.Put.{put}
-use Rattle.octets.proofs.PutLaws.{put_front}
-use Rattle.codes.specs.Code.{within, all, hyphen, character, apart, is_code, key_of}
+use Rattle.codes.specs.Code.{hyphen, apart, key_of}
 
-module _ (test : ℕ → Bool) (s : Octets) (i : ℕ) (e : all test (drop i s) ≡ all test s) where
-  pub all_stop : i < length s → test (get_or s i 0) ≡ false → false ≡ all test s
-  unfolding all
-  all_stop p h = rw (← e, drop-cons s i 0 p, h)
+-- the neighbours in a string, two by two
+abbrev pub pairs : Octets → List Octets
+pairs [] = []
+pairs (a ∷ []) = []
+pairs (a ∷ b ∷ s) = (a ∷ b ∷ []) ∷ pairs (b ∷ s)
 
-  pub all_more : i < length s → test (get_or s i 0) ≡ true → all test (drop (i + 1) s) ≡ all test s
-  unfolding all
-  all_more p h = rw (← e, add-one, drop-cons s i 0 p, h)
+-- two hyphens and nothing else
+unfoldable pub double : Octets → Bool
+double w = eqb (length w) 2 && (hyphen (get_or w 0 0) && hyphen (get_or w 1 0))
 
-  pub all_end : length s ≤ i → true ≡ all test s
-  unfolding all
-  all_end p = rw (← e, drop_of_length-le s p)
+abbrev Twos : Windows ℕ → Type 0
+Twos s = windows_size s ≡ 2
 
-module _ (s : Octets) (i : ℕ) (pos : 1 ≤ i) (e : apart (drop (i - 1) s) ≡ apart s) where
-  apart_step : i - 1 < length s → apart (drop (i - 1) s) ≡ (not (hyphen (get_or s (i - 1) 0) && hyphen (get_or s i 0)) && apart (drop i s))
-  unfolding apart
-  apart_step p =
-      let n : suc (i - 1) ≡ i = omega arith in
-      let z : i + 0 ≡ i = omega arith in
-      let g : get_or (drop i s) 0 0 ≡ get_or s i 0 = rw (get_or-drop i s 0 0, z) in
-      let d : drop (i - 1) s ≡ get_or s (i - 1) 0 ∷ drop i s = rw n at (drop-cons s (i - 1) 0 p) in
-      rw (d, g)
+pairs_none : (s : Octets) → length s < 2 → length (pairs s) ≡ 0
+pairs_none [] h = refl
+pairs_none (a ∷ []) h = refl
+pairs_none (a ∷ b ∷ s) h = absurd (omega arith)
 
-  pub apart_stop : i < length s → (hyphen (get_or s (i - 1) 0) && hyphen (get_or s i 0)) ≡ true → false ≡ apart s
-  apart_stop p h = rw (← e, apart_step (omega arith), h)
+pairs_next : (s : Octets) → 2 ≤ length s → pairs s ≡ take 2 s ∷ pairs (drop 1 s)
+pairs_next [] h = absurd (omega arith)
+pairs_next (a ∷ []) h = absurd (omega arith)
+pairs_next (a ∷ b ∷ s) h = refl
 
-  pub apart_more : i < length s → (hyphen (get_or s (i - 1) 0) && hyphen (get_or s i 0)) ≡ false → apart (drop (i + 1 - 1) s) ≡ apart s
-  apart_more p h =
-      let n : i + 1 - 1 ≡ i = omega arith in
-      rw (n, ← e, apart_step (omega arith), h)
+pub YieldsList-from_pairs : {s : Windows ℕ} (xs : Octets) → windows_rest s ≡ xs → windows_size s ≡ 2 → YieldsList windows_steps (λ w. w.now) s (pairs xs)
+YieldsList-from_pairs {s} xs e h = subst (λ (ys : List Octets). YieldsList windows_steps (λ w. w.now) s ys) (ap pairs e)
+    (YieldsList-from_shown_while windows_steps (λ w. w.now) (λ t. pairs (windows_rest t)) Twos none some s h)
+  where
+    none : (s t : Windows ℕ) → Twos s → windows_steps s None t → length (pairs (windows_rest s)) ≡ 0
+    none s t k g = pairs_none (windows_rest s) (omega arith)
 
-  pub apart_end : length s ≡ i → true ≡ apart s
-  unfolding apart hyphen
-  apart_end p =
-      let d : drop i s ≡ [] = drop_of_length-le s {i = i} (omega arith) in
-      let z : hyphen (get_or s i 0) ≡ false = rw (get_or-eq_default s 0 {n = i} (omega arith)) in
-      rw (← e, apart_step (omega arith), z, and-false (hyphen (get_or s (i - 1) 0)), d)
+    some : (s : Windows ℕ) (x : Bor Octets) (t : Windows ℕ) → Twos s → windows_steps s (Some x) t → Twos t × (pairs (windows_rest s) ≡ x.now ∷ pairs (windows_rest t))
+    some s x t k g = (g.0 ∙ k, rw (g.1.1, g.1.2, k) (pairs_next (windows_rest s) (omega arith)))
 
--- a code of a length that a code may have
-pub is_code_sized : (s : Octets) → 1 ≤ length s → length s ≤ 20
-    → is_code s ≡ (all character s && (not (hyphen (get_or s 0 0)) && (not (hyphen (get_or s (length s - 1) 0)) && apart s)))
-unfolding is_code within
-is_code_sized s p q = rw (le-leb 1 (length s) p, le-leb (length s) 20 q)
-
-pub is_code_empty : (s : Octets) → length s < 1 → false ≡ is_code s
-unfolding is_code within
-is_code_empty s p = rw (lt-leb 1 (length s) p)
-
-pub is_code_long : (s : Octets) → 1 ≤ length s → 20 < length s → false ≡ is_code s
-unfolding is_code within
-is_code_long s p q = rw (le-leb 1 (length s) p, lt-leb (length s) 20 q)
-
-drop_replicate : (n m a : ℕ) → drop n (replicate m a) ≡ replicate (m - n) a
-drop_replicate zero m a = let z : m - 0 ≡ m = omega arith in rw z
-drop_replicate (suc n) zero a = let z : 0 - suc n ≡ 0 = omega arith in rw z
-drop_replicate (suc n) (suc m) a = let z : suc m - suc n ≡ m - n = omega arith in rw z (drop_replicate n m a)
-
--- a code written over twenty zeros is its key
-pub key_of_put : (s : Octets) → put (replicate 20 0) 0 s ≡ key_of s
-unfolding key_of
-key_of_put s = put_front (replicate 20 0) s ∙ rw (drop_replicate (length s) 20 0)
+pub apart_is : (s : Octets) → not (list_any double (pairs s)) ≡ apart s
+unfolding apart hyphen double
+apart_is [] = refl
+apart_is (a ∷ []) = rw (and-false (hyphen a))
+apart_is (a ∷ b ∷ s) = rw (← apart_is (b ∷ s)) (go (hyphen a && hyphen b))
+  where
+    go : (x : Bool) → not (x || list_any double (pairs (b ∷ s))) ≡ not x && not (list_any double (pairs (b ∷ s)))
+    go true = refl
+    go false = refl
 
 pub key_of_length : (s : Octets) → length s ≤ 20 → length (key_of s) ≡ 20
 unfolding key_of

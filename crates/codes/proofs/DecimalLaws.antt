@@ -15,7 +15,7 @@ use Rattle.show.proofs.DecimalLaws.{decimal_one, decimal_more}
 use Rattle.codes.specs.Code.{within, all, digit}
 use Rattle.codes.specs.Count.{is_count, number_after, number}
 use Rattle.codes.proofs.Tests.{both}
-use Rattle.codes.proofs.CountLaws.{digit_range, count_parts}
+use Rattle.codes.proofs.CountLaws.{digit_range, count_parts, number_most}
 
 -- the last d digits of n
 abbrev digits : ℕ → ℕ → Octets
@@ -70,16 +70,6 @@ number_digits (suc d) n h =
     number_snoc 0 (digits d (n / 10)) (48 + n % 10) ∙ rw (number_digits d (n / 10) (omega arith)) (omega arith)
 
 -- A count is its number in decimal
-
-number_most : (e m : ℕ) (s : Octets) → all digit s ≡ true → m < 10 ^ e → number_after m s < 10 ^ (e + length s)
-unfolding number_after all
-number_most e m [] d h = let z : e + 0 ≡ e = omega arith in rw z h
-number_most e m (c ∷ s) d h =
-    let k = both (digit c) (all digit s) d in
-    let r = digit_range c k.0 in
-    let p = pow-suc 10 e in
-    let z : e + suc (length s) ≡ suc e + length s = omega arith in
-    rw z (number_most (suc e) (m * 10 + (c - 48)) s k.1 (omega arith))
 
 number_least : (e m : ℕ) (s : Octets) → 10 ^ e ≤ m → 10 ^ (e + length s) ≤ number_after m s
 unfolding number_after

@@ -1,6 +1,7 @@
 pub mod Tests
 pub mod CodeLaws
 pub mod CountLaws
+mod LineLaws
 pub mod TextLaws
 pub mod AcceptedLaws
 pub mod BoundLaws

@@ -1,9 +1,7 @@
 -- 01, "The list as text": what reading answers and writes.
 use Rattle.std.specs.Prelude.{◌≡◌, length}
 use mathlib.Core.List.{[], flatten}
-use Rattle.answer.specs.declared.Answer.{Answer}
-use Rattle.answer.specs.declared.Answer.TheVariants.{Done, Refused}
-use Rattle.answer.specs.Answer.{written}
+use Rattle.answer.specs.Answer.{Answer, Done, Refused, written}
 use Rattle.octets.specs.Order.{Octets}
 use Rattle.codes.specs.Text.{Reading, accepted, refused, reading}
 

@@ -1,151 +1,100 @@
 // Judging a list's text from the front, in document 01's order; nothing is written here.
-ghost use Rattle.std.specs.Prelude.{◌≡◌, true, ◌+◌, ◌≤◌, ◌<◌, length, take, drop};
+ghost use Rattle.std.specs.Prelude.{◌≡◌, true, false, ℕ, ◌*◌, ◌≤◌, MatchOption, MatchResult};
 ghost use Rattle.std.proofs.Math.Option.{none, some};
-ghost use Rattle.octets.specs.Order.{same};
-ghost use Rattle.codes.specs.Text.{before_LF, fault, codes, counted, second_line, opening, reading};
+ghost use Rattle.answer.specs.Answer.{Done};
+ghost use Rattle.answer.specs.Said.{number_of, said};
+ghost use Rattle.octets.specs.Order.{Octets};
+ghost use Rattle.codes.specs.Code as code;
+ghost use Rattle.codes.specs.Text.{ended, line, rest, fault, codes, counted, reading};
 ghost use Rattle.codes.specs.Read.{answer};
 
 use super::code::{is_code, key_of};
 use super::count::{is_count, number};
-use answer::Answer;
+use answer::{Reason, Refusal};
 
-// Where the line at `at` ends: the index of its LF, or the text's length where no LF follows.
-pub fn line_end(text: &[u8], at: usize) -> usize
-    requires { at ≤ length text.now }
-    ensures { (result ≡ at + before_LF (drop at text.now)) × (result ≤ length text.now) }
+// The line at the front without its LF, and what follows the LF; nothing where no LF ends it.
+pub fn split_line(text: &[u8]) -> Option<(&[u8], &[u8])>
+    ensures { MatchOption result
+        (ended text.now ≡ false)
+        (λ p. (ended text.now ≡ true) × (p.0.now ≡ line text.now) × (p.1.now ≡ rest text.now)) }
 {
-    let mut i = at;
-    while i < text.len() {
-        if text[i] == 10 {
-            return i;
-        }
-        i += 1;
-    }
-    i
+    let end = text.iter().position(|c| *c == b'\n')?;
+    Some((&text[..end], &text[end + 1..]))
 }
 
-// The refusal that the line from `at` to `end` meets after the key `before`, or 0.
-fn line_fault(text: &[u8], at: usize, end: usize, before: &[u8; 20]) -> u16
-    requires { (at ≤ length text.now) × (end ≡ at + before_LF (drop at text.now)) × (end ≤ length text.now) }
-    ensures { result ≡ fault (some before.now) (drop at text.now) }
+// The key of the line at the front, number `place`, where it stands above the key `before`; and what follows the line.
+#[tactic(auto, unfolding(crate::specs::Text::fault, crate::specs::Text::above))]
+fn next_key<'a>(
+    text: &'a [u8],
+    before: &[u8; 20],
+    place: u32,
+) -> Result<([u8; 20], &'a [u8]), Refusal>
+    ensures { MatchResult result
+        (λ p. (fault (some before.now) text.now ≡ 0) × (p.0 ≡ code.key_of (line text.now)) × (p.1.now ≡ rest text.now))
+        (λ r. (1 ≤ number_of r.reason) × (fault (some before.now) text.now ≡ number_of r.reason) × (r.place ≡ place)) }
 {
-    if end == text.len() {
-        return answer::LINES;
+    let (line, rest) = split_line(text).ok_or(Reason::Lines.at(place))?;
+    if !is_code(line) {
+        return Err(Reason::NotACode.at(place));
     }
-    if !is_code(&text[at..end]) {
-        return answer::NOT_A_CODE;
+    let key = key_of(line);
+    if !octets::below(before, &key) {
+        return Err(Reason::NotAscending.at(place));
     }
-    let key = key_of(&text[at..end]);
-    if octets::below(before, &key) {
-        return 0;
-    }
-    answer::NOT_ASCENDING
+    Ok((key, rest))
 }
 
-// n code lines from `start` on, and no octet after them.
-#[tactic(auto, using(crate::proofs::TextLaws::judge_left_over))]
-fn judge_codes(text: &[u8], start: usize, n: u32) -> Answer
-    requires { (start ≤ length text.now) × (n ≤ 3000) }
-    ensures { result ≡ answer (codes n 3 none (drop start text.now)) }
+// n code lines, and no octet after them.
+pub fn check_codes(text: &[u8], n: u32) -> Result<(), Refusal>
+    requires { n ≤ 3000 }
+    ensures { MatchResult result
+        (λ _. answer (codes n 3 none text.now) ≡ Done n)
+        (λ r. answer (codes n 3 none text.now) ≡ said (Err r)) }
 {
-    let mut before = [0u8; 20];
-    let mut at = start;
-    let mut i: u32 = 0;
-    while i < n {
-        let end = line_end(text, at);
-        let f = line_fault(text, at, end, &before);
-        if f != 0 {
-            return Answer::Refused {
-                number: f,
-                place: 3 + i,
-            };
-        }
-        before = key_of(&text[at..end]);
-        at = end + 1;
-        i += 1;
+    let mut before = [0; 20];
+    let mut rest = text;
+    for i in 0..n {
+        (before, rest) = next_key(rest, &before, 3 + i)?;
     }
-    if at < text.len() {
-        return Answer::Refused {
-            number: answer::LINES,
-            place: 3 + n,
-        };
+    if !rest.is_empty() {
+        return Err(Reason::Lines.at(3 + n));
     }
-    Answer::Done(n)
+    Ok(())
 }
 
-// The count, the room for the keys, and the code lines from `at` on.
-fn judge_counted(text: &[u8], at: usize, n: u32, room: usize) -> Answer
-    requires { (at ≤ length text.now) × (n < 100000) }
-    ensures { result ≡ answer (counted room n (drop at text.now)) }
+// The count: not 0, not over 3,000, and with room for its keys.
+#[tactic(auto, unfolding(crate::specs::Text::counted, crate::specs::Read::answer))]
+pub fn check_count(n: u32, room: usize) -> Result<(), Refusal>
+    ensures { (s : Octets) → MatchResult result
+        (λ _. (n ≤ 3000) × (20 * n ≤ room) × (counted room n s ≡ codes n 3 none s))
+        (λ r. answer (counted room n s) ≡ said (Err r)) }
 {
     if n == 0 {
-        return Answer::Refused {
-            number: answer::NO_KEYS,
-            place: 2,
-        };
+        return Err(Reason::NoKeys.at(2));
     }
     if 3000 < n {
-        return Answer::Refused {
-            number: answer::TOO_MANY,
-            place: 2,
-        };
+        return Err(Reason::TooMany.at(2));
     }
-    if room < 20 * (n as usize) {
-        return Answer::Refused {
-            number: answer::TOO_SHORT,
-            place: 0,
-        };
+    if room < 20 * n as usize {
+        return Err(Reason::TooShort.at(0));
     }
-    judge_codes(text, at, n)
+    Ok(())
 }
 
-// The second line, from octet 6 on.
-fn judge_second_line(text: &[u8], room: usize) -> Answer
-    requires { 6 ≤ length text.now }
-    ensures { result ≡ answer (second_line room (drop 6 text.now)) }
-{
-    let end = line_end(text, 6);
-    if end == text.len() {
-        return Answer::Refused {
-            number: answer::HEAD,
-            place: 2,
-        };
-    }
-    if !is_count(&text[6..end]) {
-        return Answer::Refused {
-            number: answer::HEAD,
-            place: 2,
-        };
-    }
-    let n = number(&text[6..end]);
-    judge_counted(text, end + 1, n, room)
-}
-
-// Whether the text opens with the line `codes`.
-fn opens(text: &[u8]) -> bool
-    ensures { result ≡ same (take 6 text.now) opening }
-{
-    if text.len() < 6 {
-        return octets::same(text, b"codes\n");
-    }
-    octets::same(&text[..6], b"codes\n")
-}
-
-// The whole text, for a buffer of `room` octets.
-pub fn judge(text: &[u8], room: usize) -> Answer
-    ensures { result ≡ answer (reading room text.now) }
+// The count on the second line, and the code lines after it.
+#[tactic(auto, using(crate::proofs::TextLaws::same_is), unfolding(crate::specs::Text::reading, crate::specs::Text::second_line, crate::specs::Text::opening, crate::specs::Read::answer))]
+pub fn head(text: &[u8]) -> Result<(u32, &[u8]), Refusal>
+    ensures { (room : ℕ) → MatchResult result
+        (λ p. reading room text.now ≡ counted room p.0 p.1.now)
+        (λ r. answer (reading room text.now) ≡ said (Err r)) }
 {
     if 65535 < text.len() {
-        return Answer::Refused {
-            number: answer::SIZE,
-            place: 0,
-        };
+        return Err(Reason::Size.at(0));
     }
-    if !opens(text) {
-        return Answer::Refused {
-            number: answer::HEAD,
-            place: 1,
-        };
+    let second = text.strip_prefix(b"codes\n").ok_or(Reason::Head.at(1))?;
+    let (count, lines) = split_line(second).ok_or(Reason::Head.at(2))?;
+    if !is_count(count) {
+        return Err(Reason::Head.at(2));
     }
-    judge_second_line(text, room)
+    Ok((number(count), lines))
 }

@@ -7,9 +7,8 @@ use native.Mathlib.Omega.{arith}
 use borrow.Author.Tests.{ne_eqb, lt-ltb}
 use lib.ListN.{length, take, drop}
 use lib.Seq.{take_at}
-use Rattle.answer.specs.declared.Answer.{Answer}
-use Rattle.answer.specs.declared.Answer.TheVariants as answer
-use Rattle.answer.specs.Answer.{written}
+use Rattle.answer.specs.Answer.{Answer, written}
+use Rattle.answer.specs.Answer as answer
 use Rattle.answer.specs.Refusals.{size, more_codes}
 use Rattle.octets.specs.Order.{Octets}
 use Rattle.codes.specs.Text.{Reading, accepted, reading}
@@ -17,32 +16,30 @@ use Rattle.codes.specs.Text as text
 use Rattle.codes.specs.Read.{Read}
 use Rattle.codes.specs.Read as read
 use Rattle.codes.proofs.AcceptedLaws.{answer_done}
-use Rattle.contradiction.specs.declared.Outcome.{Outcome}
-use Rattle.contradiction.specs.declared.Outcome.TheVariants.{Found, Refused}
+use Rattle.contradiction.specs.Outcome.{Outcome, Found, None, Refused}
 use Rattle.contradiction.specs.Trial.{number_key, first_alike, trial_answer}
 use Rattle.contradiction.specs.Drill.{handed, number, refused, tried, drilled, drilling, drill_answer, first_buffer, second_buffer, CarriedOut, Drilled}
 use Rattle.contradiction.proofs.ReadLaws.{read_many, read_sized}
 
 -- `contradict`
 
-nothing_found : (k out₁ out₂ : Octets) (o : Option ℕ) {t : Outcome} → t ≡ trial_answer o → ((n : ℕ) → t ≡ Found n → ⊥)
-    → CarriedOut (tried k o) out₁ out₂ t out₁ out₂
+none_tried : (k out₁ out₂ : Octets) (o : Option ℕ) → None ≡ trial_answer o → CarriedOut (tried k o) out₁ out₂ None out₁ out₂
 unfolding trial_answer tried drill_answer first_buffer second_buffer
-nothing_found k out₁ out₂ none e m = record { answered = e; first_left = refl; second_left = refl }
-nothing_found k out₁ out₂ (some n) e m = absurd (m n e)
+none_tried k out₁ out₂ none e = record { answered = refl; first_left = refl; second_left = refl }
+none_tried k out₁ out₂ (some n) e = let z : ◌≡◌ {A = ℕ} 0 1 = cc in absurd (omega arith)
 
 found_tried : (k : Octets) (o : Option ℕ) {n : ℕ} → Found n ≡ trial_answer o → tried k o ≡ number n (handed k (number_key n))
 unfolding trial_answer tried
 found_tried k none e = let z : ◌≡◌ {A = ℕ} 0 1 = cc in absurd (omega arith)
 found_tried k (some m) {n} e = let q : n ≡ m = cc in rw q
 
-module _ (k out₁ out₂ : Octets) (bound : ℕ) {t : Outcome} (e : t ≡ trial_answer (first_alike k bound 0)) where
-  pub contradict_none : ((n : ℕ) → t ≡ Found n → ⊥) → CarriedOut (tried k (first_alike k bound 0)) out₁ out₂ t out₁ out₂
-  contradict_none m = nothing_found k out₁ out₂ (first_alike k bound 0) e m
+module _ (k out₁ out₂ : Octets) (bound : ℕ) where
+  pub contradict_none : None ≡ trial_answer (first_alike k bound 0) → CarriedOut (tried k (first_alike k bound 0)) out₁ out₂ None out₁ out₂
+  contradict_none e = none_tried k out₁ out₂ (first_alike k bound 0) e
 
-  pub contradict_found : {n : ℕ} {r : Outcome} {out₁' out₂' : Octets} → t ≡ Found n
+  pub contradict_found : {n : ℕ} {r : Outcome} {out₁' out₂' : Octets} → Found n ≡ trial_answer (first_alike k bound 0)
       → CarriedOut (number n (handed k (number_key n))) out₁ out₂ r out₁' out₂' → CarriedOut (tried k (first_alike k bound 0)) out₁ out₂ r out₁' out₂'
-  contradict_found f c = rw (found_tried k (first_alike k bound 0) (sym f ∙ e)) c
+  contradict_found e c = rw (found_tried k (first_alike k bound 0) e) c
 
 answer_refused : (q : Reading) {m p : ℕ} → answer.Refused m p ≡ read.answer q → q ≡ text.refused m p
 unfolding read.answer

@@ -9,3 +9,4 @@ pub mod ShownLaws
 mod ComesLaws
 pub mod SizedLaws
 pub mod Shows
+pub mod PackedLaws

@@ -1,10 +1,12 @@
 -- A number below 2 ^ 32 as a key: 16 zeros before its four octets, which tell the number.
 use mathlib.Core.Path.{◌≡◌, refl, sym, ap, ◌∙◌}
-use mathlib.Core.List.{◌++◌}
+use mathlib.Core.List.{[], ◌++◌, append-nil}
 use Prim.Native.Nat.{ℕ, zero, suc, ◌+◌, ◌/◌, ◌%◌, ◌^◌, ◌≤◌, ◌<◌}
 use native.Mathlib.Nat.{div-one, div-eq_of_lt, pow-le-pow_right}
 use native.Mathlib.Omega.{arith}
-use lib.ListN.{length, get_or, set, replicate}
+use lib.ListN.{length, get_or, replicate}
+use Rattle.octets.specs.Order.{Octets}
+use Rattle.std.specs.Int.{bytes_high_first}
 use Rattle.sha256.specs.Fips180.{octets}
 use Rattle.contradiction.specs.Trial.{number_key}
 
@@ -23,13 +25,14 @@ small_octets n (suc k) h =
     let e : 4 + suc k ≡ suc (4 + k) = omega arith in
     rw (e, zero_octet n (256 ^ (4 + k)) (omega arith), small_octets n k h)
 
-pub key_stored : (n : ℕ) → n < 2 ^ 32
-    → set (set (set (set (replicate 20 0) 16 (n / 16777216)) 17 (n / 65536 % 256)) 18 (n / 256 % 256)) 19 (n % 256) ≡ number_key n
+-- the library's four octets
+pub octets_bytes : (n : ℕ) → bytes_high_first 4 n ≡ octets 4 n
 unfolding octets
-key_stored n h =
-    let a : n / 16777216 ≡ n / 16777216 % 256 = omega arith in
-    let b : n % 256 ≡ n / 1 % 256 = omega arith in
-    rw (small_octets n 16 h) cc
+octets_bytes n = let e : n % 256 ≡ n / 1 % 256 = omega arith in rw e
+
+-- which the code writes behind 16 zeros
+pub key_written : (n : ℕ) {s : Octets} → n < 2 ^ 32 → s ≡ bytes_high_first 4 n → replicate 16 0 ++ (s ++ []) ≡ number_key n
+key_written n {s} h e = rw (small_octets n 16 h, append-nil s, e, octets_bytes n)
 
 -- equal above the last octet, and in it
 joined : (n m : ℕ) → n / 256 ≡ m / 256 → n % 256 ≡ m % 256 → n ≡ m

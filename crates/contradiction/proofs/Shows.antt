@@ -13,8 +13,7 @@ use Rattle.attester.specs.Extract.{extracted}
 use Rattle.codes.specs.Text.{accepted, reading}
 use Rattle.tree.specs.Edition.{width, most}
 use Rattle.extractor.specs.Extract.{extraction_answer, first_record, second_record}
-use Rattle.contradiction.specs.declared.Outcome.{Outcome}
-use Rattle.contradiction.specs.declared.Outcome.TheVariants.{Found, None, Refused}
+use Rattle.contradiction.specs.Outcome.{Outcome, Found, None, Refused}
 use Rattle.contradiction.specs.Trial.{number_key, first_alike}
 use Rattle.contradiction.specs.Drill.{Drilling, number, tried, drilled, drilling, drill_answer, first_buffer, second_buffer, CarriedOut, Drilled}
 use Rattle.contradiction.specs.Shows.{Within, FoundIsShown, FoundBy, FoundNone, RefusedFor, AnswersTell, Shows}

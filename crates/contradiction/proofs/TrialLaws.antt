@@ -1,6 +1,6 @@
 -- The search: what is left to search gives what the whole search gives; and since at most one number is the listed key, a number is
 -- at most one ahead of how many were tried, so that none beyond the bound is tried, nor the bound itself unless one was skipped.
-use mathlib.Core.Path.{◌≡◌, refl, sym, subst, ◌∙◌}
+use mathlib.Core.Path.{◌≡◌, refl, sym, ◌∙◌}
 use mathlib.Core.Bool.{Bool, true, false}
 use mathlib.Core.List.{[], ◌∷◌}
 use mathlib.Core.Logic.{inl, inr}
@@ -16,7 +16,7 @@ use Rattle.profile.specs.Profile.{drill, label}
 use Rattle.attester.specs.Label.{digest}
 use Rattle.tree.specs.Edition.{width}
 use Rattle.tree.specs.Labels.{label_of}
-use Rattle.contradiction.specs.declared.Outcome.TheVariants.{Found, None}
+use Rattle.contradiction.specs.Outcome.{Found, None}
 use Rattle.contradiction.specs.Trial.{number_key, alike, unlisted, first_alike, trial_answer}
 use Rattle.contradiction.specs.Shows.{Skipped, Within}
 use Rattle.contradiction.proofs.NumberLaws.{key_length, key_injective}
@@ -90,28 +90,32 @@ module _ (k : Octets) where
     pub room_next : Room bound (suc left) n → Room bound left (suc (unlisted k n))
     room_next r = (stepped r (same (number_key n) k) refl).room
 
-  -- the loop, where n is to be tried next, with so many left
-  pub record Searching (bound left n : ℕ) : Type 0 where
-    pub room : Room bound left n
-    pub rest : first_alike k left n ≡ first_alike k bound 0
+  -- the loop, where t numbers were tried and n is to be tried next
+  pub record Searching (bound t n : ℕ) : Type 0 where
+    pub room : Room bound (bound - t) n
+    pub rest : first_alike k (bound - t) n ≡ first_alike k bound 0
 
-  pub searching_start : (bound : ℕ) → Searching bound bound 0
-  searching_start bound = record { room = room_start bound; rest = refl }
+  pub searching_start : (bound : ℕ) → Searching bound 0 0
+  searching_start bound = let e : bound - 0 ≡ bound = omega arith in record { room = rw e (room_start bound); rest = rw e }
 
-pub searching_none : {k : Octets} {bound left n : ℕ} → Searching k bound left n → left ≤ 0 → None ≡ trial_answer (first_alike k bound 0)
+pub searching_none : {k : Octets} {bound t n : ℕ} → Searching k bound t n → bound ≤ t → None ≡ trial_answer (first_alike k bound 0)
 unfolding first_alike trial_answer
-searching_none {k} {bound} {left} {n} s h = let z : left ≡ 0 = omega arith in rw (← s.rest, z)
+searching_none {k} {bound} {t} s h = let z : bound - t ≡ 0 = omega arith in rw (← s.rest, z)
 
-module _ {k : Octets} {bound left n : ℕ} (s : Searching k bound left n) (small : bound < 2 ^ 32) (more : 0 < left) where
-  again : Searching k bound (suc (left - 1)) n
-  again = let e : left ≡ suc (left - 1) = omega arith in subst (λ (i : ℕ). Searching k bound i n) e s
+module _ {k : Octets} {bound t n : ℕ} (s : Searching k bound t n) (small : bound < 2 ^ 32) (more : t < bound) where
+  -- one of those that are left is tried now
+  again : bound - t ≡ suc (bound - (t + 1))
+  again = omega arith
+
+  room : Room k bound (suc (bound - (t + 1))) n
+  room = rw again at s.room
 
   pub number_small : n < 2 ^ 32
-  number_small = omega (arith, room_below k bound small (left - 1) n again.room)
+  number_small = omega (arith, room_below k bound small (bound - (t + 1)) n room)
 
   module _ {m : ℕ} (u : m ≡ unlisted k n) where
     pub tried_small : m < 2 ^ 32
-    tried_small = omega (arith, u, within_bound k (tried_within k bound small (left - 1) n again.room))
+    tried_small = omega (arith, u, within_bound k (tried_within k bound small (bound - (t + 1)) n room))
 
     -- the code's test is against the label d, worked out beforehand
     module _ {d : Octets} {b : Bool} (one : length k ≡ 20) (ed : d ≡ label_of (label drill) width k)
@@ -122,11 +126,12 @@ module _ {k : Octets} {bound left n : ℕ} (s : Searching k bound left n) (small
 
       pub searching_found : b ≡ true → Found m ≡ trial_answer (first_alike k bound 0)
       unfolding first_alike trial_answer
-      searching_found t = rw (← again.rest, ← u, tested, t)
+      searching_found e = rw (← s.rest, again, ← u, tested, e)
 
-      pub searching_turn : b ≡ false → Searching k bound (left - 1) (m + 1)
+      pub searching_turn : b ≡ false → Searching k bound (t + 1) (m + 1)
       unfolding first_alike
-      searching_turn t =
-          let r : Room k bound (left - 1) (suc m) = rw u (room_next k bound small (left - 1) n again.room) in
-          let e : first_alike k (suc (left - 1)) n ≡ first_alike k (left - 1) (suc m) = rw (← u, tested, t) in
-          rw add-one record { room = r; rest = sym e ∙ again.rest }
+      searching_turn e =
+          let r : Room k bound (bound - (t + 1)) (suc m) = rw u (room_next k bound small (bound - (t + 1)) n room) in
+          let f : first_alike k (suc (bound - (t + 1))) n ≡ first_alike k (bound - (t + 1)) (suc m) = rw (← u, tested, e) in
+          let j : m + 1 ≡ suc m = add-one m in
+          rw j record { room = r; rest = sym f ∙ (rw again at s.rest) }

@@ -15,8 +15,7 @@ use Rattle.codes.specs.Text.{Reading, accepted, reading}
 use Rattle.codes.specs.Text as text
 use Rattle.tree.specs.Edition.{width, most}
 use Rattle.extractor.specs.Extract.{extraction_answer, first_record, second_record}
-use Rattle.contradiction.specs.declared.Outcome.{Outcome}
-use Rattle.contradiction.specs.declared.Outcome.TheVariants.{Found, None, Refused}
+use Rattle.contradiction.specs.Outcome.{Outcome, Found, None, Refused}
 use Rattle.contradiction.specs.Trial.{number_key, first_alike}
 
 -- "It hands the extractor that key's Absent under the first tree and its Present under the second": of the key x, with the listed

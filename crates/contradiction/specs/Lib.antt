@@ -1,3 +1,4 @@
+pub mod Outcome
 pub mod Trial
 pub mod Drill
 pub mod Shows

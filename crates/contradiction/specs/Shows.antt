@@ -15,8 +15,7 @@ use Rattle.attester.specs.Attestation.{attestation}
 use Rattle.codes.specs.Text.{accepted, reading}
 use Rattle.codes.specs.Text as text
 use Rattle.tree.specs.Edition.{width, most}
-use Rattle.contradiction.specs.declared.Outcome.{Outcome}
-use Rattle.contradiction.specs.declared.Outcome.TheVariants.{Found, None, Refused}
+use Rattle.contradiction.specs.Outcome.{Outcome, Found, None, Refused}
 use Rattle.contradiction.specs.Trial.{number_key, alike, first_alike}
 use Rattle.contradiction.specs.Drill.{Drilled}
 

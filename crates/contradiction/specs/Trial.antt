@@ -6,8 +6,7 @@ use Rattle.octets.specs.Order.{Octets, same}
 use Rattle.sha256.specs.Fips180.{octets}
 use Rattle.profile.specs.Profile.{drill, label}
 use Rattle.attester.specs.Label.{digest}
-use Rattle.contradiction.specs.declared.Outcome.{Outcome}
-use Rattle.contradiction.specs.declared.Outcome.TheVariants.{Found, None}
+use Rattle.contradiction.specs.Outcome.{Outcome, Found, None}
 
 -- "keys as big-endian numbers": the number n as a key
 abbrev pub number_key : ℕ → Octets

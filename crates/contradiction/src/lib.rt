@@ -7,72 +7,50 @@ mod number;
 mod trial;
 
 ghost use Rattle.std.specs.Prelude.{◌≡◌, length};
+ghost use Rattle.contradiction.specs.Outcome.{said_found};
 ghost use Rattle.contradiction.specs.Trial.{first_alike};
-ghost use Rattle.contradiction.specs.Drill.{tried, CarriedOut, Drilled, drill_packed};
+ghost use Rattle.contradiction.specs.Drill.{tried, CarriedOut, Drilled};
 
-use answer::Answer;
-
-// The number that was found, that there is none, or a refusal.
-#[derive(Clone, Copy)]
-pub enum Outcome {
-    Found(u32),
-    None,
-    Refused { number: u16, place: u32 },
-}
+use answer::{Reason, Refusal};
 
 // Tries at most `bound` numbers for the listed key, and hands the first that is alike to the extractor.
-fn contradict(listed: &[u8], bound: u32, out1: &mut [u8], out2: &mut [u8]) -> Outcome
-    requires { (length listed.now ≡ 20) × (length out1.old ≡ 85) × (length out2.old ≡ 85) }
-    ensures { CarriedOut (tried listed.now (first_alike listed.now bound 0)) out1.old out2.old result out1.new out2.new }
+fn contradict(
+    listed: &[u8; 20],
+    bound: u32,
+    out1: &mut [u8],
+    out2: &mut [u8],
+) -> Result<Option<u32>, Refusal>
+    requires { (length out1.old ≡ 85) × (length out2.old ≡ 85) }
+    ensures { CarriedOut (tried listed.now (first_alike listed.now bound 0)) out1.old out2.old (said_found result) out1.new out2.new }
 {
-    let t = trial::first_alike(listed, bound);
-    let Outcome::Found(n) = t else {
-        return t;
+    let Some(n) = trial::first_alike(listed, bound) else {
+        return Ok(None);
     };
-    handing::hand_over(listed, n, out1, out2)
+    handing::hand_over(listed, n, out1, out2)?;
+    Ok(Some(n))
 }
 
 // Reads a list of one code, tries keys as numbers upward from zero, the listed one skipped, at most `bound` of them, and writes the
-// listed key's node record into out1 and the found number's into out2, 85 octets each. Where nothing is found or the list is
-// refused, both stay as they were: a buffer not 85 octets (1), reading's refusals, more than one code (16 at 2).
-pub fn drill(text: &[u8], bound: u32, out1: &mut [u8], out2: &mut [u8]) -> Outcome
-    ensures { Drilled text.now bound out1.old out2.old result out1.new out2.new }
+// listed key's node record into out1 and the found number's into out2, 85 octets each, and answers that number. Where nothing is found
+// or the list is refused, both stay as they were: a buffer not 85 octets (1), reading's refusals, more than one code (16 at 2).
+pub fn drill(
+    text: &[u8],
+    bound: u32,
+    out1: &mut [u8],
+    out2: &mut [u8],
+) -> Result<Option<u32>, Refusal>
+    ensures { Drilled text.now bound out1.old out2.old (said_found result) out1.new out2.new }
 {
-    if out1.len() != 85 {
-        return Outcome::Refused {
-            number: answer::SIZE,
-            place: 0,
-        };
+    if out1.len() != 85 || out2.len() != 85 {
+        return Err(Reason::Size.at(0));
     }
-    if out2.len() != 85 {
-        return Outcome::Refused {
-            number: answer::SIZE,
-            place: 0,
-        };
-    }
+    // no heap: room for the 3,000 keys that a list may have
     let mut keys = [0u8; 60000];
-    let a = codes::read_list(text, &mut keys);
-    match a {
-        Answer::Refused { number, place } => Outcome::Refused { number, place },
-        Answer::Done(n) => {
-            if 1 < n {
-                return Outcome::Refused {
-                    number: answer::MORE_CODES,
-                    place: 2,
-                };
-            }
-            contradict(&keys[..20], bound, out1, out2)
-        }
+    let n = codes::read_list(text, &mut keys)?;
+    if 1 < n {
+        return Err(Reason::MoreCodes.at(2));
     }
-}
-
-// The outcome as one number, for callers in other languages.
-pub fn pack_drill(o: Outcome) -> u64
-    ensures { result ≡ drill_packed o }
-{
-    match o {
-        Outcome::Found(n) => n as u64,
-        Outcome::None => 4294967296,
-        Outcome::Refused { number, place } => number as u64 * 281474976710656 + (place as u64),
-    }
+    let mut listed = [0; 20];
+    listed.copy_from_slice(&keys[..20]);
+    contradict(&listed, bound, out1, out2)
 }

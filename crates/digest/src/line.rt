@@ -3,7 +3,7 @@ ghost use Rattle.std.specs.Prelude.{◌≡◌, ◌+◌, ◌≤◌, length};
 ghost use Rattle.octets.specs.Put.{Wrote};
 ghost use Rattle.digest.specs.Line.{accepted_line, digest_line};
 
-use answer::Answer;
+use profile::Profile;
 
 // Writes the line of an accepted list at the front of out, and returns its length.
 fn put_accepted(out: &mut [u8], n: u32, digest: &[u8; 32]) -> usize
@@ -22,16 +22,16 @@ pub fn digest_line(text: &[u8], out: &mut [u8]) -> usize
     requires { 96 ≤ length out.old }
     ensures { (Wrote out.old 0 (digest_line text.now) out.new result) × (result ≤ 96) }
 {
+    // no heap: room for the most keys that a list may have
     let mut keys = [0u8; 60000];
-    let a = sagebutton::read_list(text, &mut keys);
-    match a {
-        Answer::Refused { number, place } => show::put_refusal(out, number, place),
-        Answer::Done(n) => {
-            let end = 20 * (n as usize);
+    match sagebutton::read_list(text, &mut keys) {
+        Ok(n) => {
+            let end = 20 * n as usize;
             let mut d = [0u8; 32];
             // what was read is always accepted
-            sagebutton::digest(profile::FULL, &keys[..end], &mut d);
+            let _ = sagebutton::digest(Profile::Full.number(), &keys[..end], &mut d);
             put_accepted(out, n, &d)
         }
+        Err(refusal) => show::put_refusal(out, refusal.reason.number(), refusal.place),
     }
 }

@@ -3,14 +3,12 @@
 
 mod line;
 
-use input::Input;
 use std::io::Write;
 
 fn main(rt: HostRuntime) {
-    // one octet more than a list may have, so that a longer one is seen to be longer
+    // no heap; one octet more than a list may have, so that a longer one is seen to be longer
     let mut text = [0u8; 65536];
-    let got = input::read_text(&mut rt.stdin(), &mut text);
-    let Input::Whole(n) = got else {
+    let Ok(n) = input::read_text(&mut rt.stdin(), &mut text) else {
         let _ = rt
             .stderr()
             .write_all(b"digest: standard input could not be read to its end\n");

@@ -3,8 +3,6 @@ ghost use Rattle.std.specs.Prelude.{◌≤◌, length};
 ghost use Rattle.octets.specs.Put.{Wrote};
 ghost use Rattle.drill.specs.Line.{record_lines, drill_lines};
 
-use contradiction::Outcome;
-
 // Writes the two records' lines at the front of out, and returns their length.
 fn put_records(out: &mut [u8], first: &[u8; 85], second: &[u8; 85]) -> usize
     requires { 342 ≤ length out.old }
@@ -23,10 +21,12 @@ pub fn drill_lines(text: &[u8], out: &mut [u8]) -> usize
 {
     let mut first = [0u8; 85];
     let mut second = [0u8; 85];
-    let o = contradiction::drill(text, 1048576, &mut first, &mut second);
-    match o {
-        Outcome::Found(_) => put_records(out, &first, &second),
-        Outcome::None => octets::put(out, 0, b"none\n"),
-        Outcome::Refused { number, place } => show::put_refusal(out, number, place),
+    let found = match contradiction::drill(text, 1048576, &mut first, &mut second) {
+        Ok(found) => found,
+        Err(refusal) => return show::put_refusal(out, refusal.reason.number(), refusal.place),
+    };
+    match found {
+        Some(_) => put_records(out, &first, &second),
+        None => octets::put(out, 0, b"none\n"),
     }
 }

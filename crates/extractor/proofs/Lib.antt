@@ -1,4 +1,3 @@
 mod ToldLaws
-mod SizedLaws
 mod PassedLaws
 mod ExtractedLaws

@@ -1,42 +1,50 @@
--- The walk over two attestations of sound form: a level that the path has is one that K counts; and the loop's turn and end.
-use mathlib.Core.Path.{◌≡◌, sym, ap, ◌∙◌}
-use mathlib.Core.Bool.{Bool, true, false}
-use mathlib.Core.Option.{some}
+-- The walk over two attestations of sound form: a level that both paths have is one that both count; and the loop's turn.
+use mathlib.Core.Path.{◌≡◌, ap}
+use mathlib.Core.Bool.{true}
+use mathlib.Core.Logic.{∥∥₁_elim}
 use Prim.Native.Nat.{ℕ, suc, ◌+◌, ◌≤◌, ◌<◌}
+use native.Mathlib.Numerals.{add-one}
 use native.Mathlib.Omega.{arith}
 use lib.ListN.{get_or}
+use Rattle.std.specs.Coded.{le_prop}
 use Rattle.octets.specs.Order.{Octets, same}
 use Rattle.attester.specs.Path.{height, down}
 use Rattle.attester.specs.Verdict.{root_record}
 use Rattle.attester.specs.Attestation.{render}
-use Rattle.attester.specs.Walk.{walk}
 use Rattle.attester.specs.Demand3.{Walked}
 use Rattle.attester.proofs.FormLaws.{form_rendered}
-use Rattle.attester.proofs.WalkLaws.{Passing, passing_next, passing_end}
+use Rattle.attester.proofs.WalkLaws.{Passing, passing_next}
 use Rattle.tree.specs.Edition.{width}
 use Rattle.attestation.specs.Shown.{Formed, shown}
-use Rattle.extractor.specs.Walk.{pair}
 
-count_is : (a : Octets) → Formed a → get_or a 0 0 ≡ suc (height (shown a))
+-- K, the number of a path's levels
+record Counted (a : Octets) : Type 0 where
+  is : get_or a 0 0 ≡ suc (height (shown a))
+  few : get_or a 0 0 ≤ 32
+
+counted : (a : Octets) → Formed a → Counted a
 unfolding render
-count_is a f = ap (λ s. get_or s 0 0) (form_rendered width a (shown a) f).is
+counted a f =
+    let r = form_rendered width a (shown a) f in
+    let e : get_or a 0 0 ≡ suc (height (shown a)) = ap (λ s. get_or s 0 0) r.is in
+    record { is = e; few = omega (arith, r.low) }
 
-pub level_in : (a : Octets) (i : ℕ) → Formed a → i ≤ height (shown a) → i < get_or a 0 0
-level_in a i f h = omega (arith, count_is a f)
+level_in : (a : Octets) (i : ℕ) → ∥ Formed a ∥₁ → i ≤ height (shown a) → i < get_or a 0 0
+level_in a i t h = ∥∥₁_elim t le_prop λ f. omega (arith, (counted a f).is)
 
-pub level_few : (a : Octets) → Formed a → get_or a 0 0 ≤ 32
-level_few a f = omega (arith, count_is a f, (form_rendered width a (shown a) f).low)
+level_few : (a : Octets) (i : ℕ) → ∥ Formed a ∥₁ → i ≤ height (shown a) → i < 32
+level_few a i t h = ∥∥₁_elim t le_prop λ f. let n = counted a f in omega (arith, n.is, n.few)
 
--- up to level i the records agree, and s says whether they do on level i
-pub record Walking (H : Octets → Octets) (x a b : Octets) (i : ℕ) (s : Bool) : Type 0 where
-  pub passing : Passing H x (shown a) (shown b) i
-  pub told : s ≡ same (root_record H x (down i (shown a))) (root_record H x (down i (shown b)))
+module _ {H : Octets → Octets} {x : Octets} (a b : Octets) {i : ℕ} (p : Passing H x (shown a) (shown b) i) where
+  pub in_first : ∥ Formed a ∥₁ → i < get_or a 0 0
+  in_first f = level_in a i f p.first_level
 
-module _ (H : Octets → Octets) (x a b : Octets) (i : ℕ) (s : Bool) (c : Walking H x a b i s) where
-  pub walking_next : Walked H x (shown a) (shown b) → s ≡ true → Passing H x (shown a) (shown b) (i + 1)
-  walking_next u e =
-      let one : i + 1 ≡ suc i = omega arith in
-      rw one (passing_next H x (shown a) (shown b) i u c.passing (sym c.told ∙ e))
+  pub in_second : ∥ Formed b ∥₁ → i < get_or b 0 0
+  in_second f = level_in b i f p.second_level
 
-  pub walking_end : s ≡ false → walk H x (shown a) (shown b) ≡ some (pair H x (shown a) (shown b) i)
-  walking_end e = passing_end H x (shown a) (shown b) i c.passing (sym c.told ∙ e)
+  pub few : ∥ Formed a ∥₁ → i < 32
+  few f = level_few a i f p.first_level
+
+  pub walking_next : Walked H x (shown a) (shown b) → same (root_record H x (down i (shown a))) (root_record H x (down i (shown b))) ≡ true
+      → Passing H x (shown a) (shown b) (i + 1)
+  walking_next u e = rw add-one (passing_next H x (shown a) (shown b) i u p e)

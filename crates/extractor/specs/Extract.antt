@@ -1,8 +1,6 @@
 -- The promise of `extract` (01, "Extractor"; 02, vi).
 use Rattle.std.specs.Prelude.{◌≡◌, [], ℕ, length}
-use Rattle.answer.specs.declared.Answer.{Answer}
-use Rattle.answer.specs.declared.Answer.TheVariants.{Done, Refused}
-use Rattle.answer.specs.Answer.{written}
+use Rattle.answer.specs.Answer.{Answer, Done, Refused, written}
 use Rattle.octets.specs.Order.{Octets}
 use Rattle.profile.specs.Profile.{label, in_profile}
 use Rattle.attester.specs.Extract.{Extraction, extracted, refused, extract}

@@ -5,41 +5,34 @@
 mod walk;
 
 ghost use Rattle.std.specs.Prelude.{◌≡◌};
+ghost use Rattle.answer.specs.Said.{said, said_verdict};
 ghost use Rattle.attester.specs.Extract as extractor;
 ghost use Rattle.tree.specs.Edition.{width};
 ghost use Rattle.extractor.specs.Told as specs;
 ghost use Rattle.extractor.specs.Extract.{Extracted};
 
-use answer::{Answer, Verdict};
+use answer::{Answer, Reason, Refusal, Verdict};
+use attestation::judge;
+use attestation::shown::Attestation;
+use profile::Profile;
 
-// The verdict's own number for Present and Absent; or the refusal's number, with which attestation it was as its place.
-fn told(which: u32, v: Verdict) -> Answer
-    ensures { result ≡ specs.told which v }
+// The verdict; or its refusal, with which attestation it was as its place.
+#[tactic(auto, unfolding(crate::specs::Told::told))]
+fn told(which: u32, verdict: Result<Verdict, Refusal>) -> Result<Verdict, Refusal>
+    ensures { said_verdict result ≡ specs.told which (said_verdict verdict) }
 {
-    let Verdict::Refused { number, place: _ } = v else {
-        // a verdict that accepts is packed without a refusal, in 32 bits
-        return Answer::Done(answer::pack_verdict(v) as u32);
+    let Err(refusal) = verdict else {
+        return verdict;
     };
-    Answer::Refused {
-        number,
-        place: which,
-    }
+    Err(refusal.reason.at(which))
 }
 
 // Whether the key, the digest and the two buffers have the sizes that they must have.
+#[tactic(auto, unfolding(attester::specs::Extract::sized))]
 fn sized(key: usize, digest: usize, out1: usize, out2: usize) -> bool
     ensures { result ≡ extractor.sized width key digest out1 out2 }
 {
-    if key != 20 {
-        return false;
-    }
-    if digest != 32 {
-        return false;
-    }
-    if out1 != 85 {
-        return false;
-    }
-    out2 == 85
+    key == 20 && digest == 32 && out1 == 85 && out2 == 85
 }
 
 // Writes the two node records, in a profile, the first attestation's to out1 and the second's to out2, and answers the number of
@@ -54,40 +47,21 @@ pub fn extract(
     out1: &mut [u8],
     out2: &mut [u8],
 ) -> Answer
-    ensures { Extracted profile key.now digest.now first.now second.now out1.old out2.old result out1.new out2.new }
+    ensures { Extracted profile key.now digest.now first.now second.now out1.old out2.old (said result) out1.new out2.new }
 {
-    if !profile::known(profile) {
-        return Answer::Refused {
-            number: answer::UNKNOWN_PROFILE,
-            place: 0,
-        };
-    }
+    let named = Profile::try_from(profile)?;
     if !sized(key.len(), digest.len(), out1.len(), out2.len()) {
-        return Answer::Refused {
-            number: answer::SIZE,
-            place: 0,
-        };
+        return Err(Reason::Size.at(0));
     }
-    let a = told(1, attestation::verify(profile, key, digest, first));
-    let Answer::Done(p) = a else {
-        return a;
-    };
-    let b = told(2, attestation::verify(profile, key, digest, second));
-    let Answer::Done(q) = b else {
-        return b;
-    };
+    let p = told(1, attestation::verify(profile, key, digest, first))?;
+    let q = told(2, attestation::verify(profile, key, digest, second))?;
     if p == q {
-        return Answer::Refused {
-            number: answer::NO_CONTRADICTION,
-            place: 0,
-        };
+        return Err(Reason::NoContradiction.at(0));
     }
-    let i = walk::passed(profile, first, second, key);
-    octets::put(out1, 0, &attestation::judge::record(profile, first, key, i));
-    octets::put(
-        out2,
-        0,
-        &attestation::judge::record(profile, second, key, i),
-    );
-    Answer::Done(i as u32)
+    let first = Attestation { octets: first };
+    let second = Attestation { octets: second };
+    let i = walk::passed(named, first, second, key);
+    out1.copy_from_slice(&judge::record(named, first, key, i));
+    out2.copy_from_slice(&judge::record(named, second, key, i));
+    Ok(i as u32)
 }

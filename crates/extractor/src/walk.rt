@@ -7,30 +7,42 @@ ghost use Rattle.attester.specs.Verdict.{root_record};
 ghost use Rattle.attester.specs.Walk.{walk};
 ghost use Rattle.attester.specs.Demand3.{Walked};
 ghost use Rattle.profile.specs.Profile.{label};
-ghost use Rattle.attestation.specs.Shown.{Formed, shown};
+ghost use Rattle.profile.specs.Named.{number_of_profile};
+ghost use Rattle.attestation.specs.Shown.{shown};
 ghost use Rattle.extractor.specs.Walk.{pair};
 
+use attestation::judge;
+use attestation::shown::Attestation;
+use profile::Profile;
+
 // Whether the two records, in a profile, i levels below the roots are the same.
-fn agree(profile: u32, first: &[u8], second: &[u8], x: &[u8], i: usize) -> bool
-    requires { Formed first.now × Formed second.now × (i < get_or first.now 0 0) × (i < get_or second.now 0 0) }
-    ensures { result ≡ same (root_record (label profile) x.now (down i (shown first.now))) (root_record (label profile) x.now (down i (shown second.now))) }
+fn agree(
+    profile: Profile,
+    first: Attestation<'_>,
+    second: Attestation<'_>,
+    x: &[u8],
+    i: usize,
+) -> bool
+    requires { (i < get_or first.octets.now 0 0) × (i < get_or second.octets.now 0 0) }
+    ensures { result ≡ same (root_record (label (number_of_profile profile)) x.now (down i (shown first.entry.octets.now))) (root_record (label (number_of_profile profile)) x.now (down i (shown second.entry.octets.now))) }
 {
     octets::same(
-        &attestation::judge::record(profile, first, x, i),
-        &attestation::judge::record(profile, second, x, i),
+        &judge::record(profile, first, x, i),
+        &judge::record(profile, second, x, i),
     )
 }
 
 // How many levels pass before that one.
-pub fn passed(profile: u32, first: &[u8], second: &[u8], x: &[u8]) -> usize
-    requires { Formed first.now × Formed second.now × Walked (label profile) x.now (shown first.now) (shown second.now) }
-    ensures { (walk (label profile) x.now (shown first.now) (shown second.now) ≡ some (pair (label profile) x.now (shown first.now) (shown second.now) result)) × (result < get_or first.now 0 0) × (result < get_or second.now 0 0) }
+pub fn passed(profile: Profile, first: Attestation<'_>, second: Attestation<'_>, x: &[u8]) -> usize
+    requires { Walked (label (number_of_profile profile)) x.now (shown first.octets.now) (shown second.octets.now) }
+    ensures is { walk (label (number_of_profile profile)) x.now (shown first.entry.octets.now) (shown second.entry.octets.now) ≡ some (pair (label (number_of_profile profile)) x.now (shown first.entry.octets.now) (shown second.entry.octets.now) result) }
+    ensures in_first { result < get_or first.entry.octets.now 0 0 }
+    ensures in_second { result < get_or second.entry.octets.now 0 0 }
 {
+    // no range: only the test knows where the walk ends
     let mut i = 0;
-    let mut same = agree(profile, first, second, x, 0);
-    while same {
+    while agree(profile, first, second, x, i) {
         i += 1;
-        same = agree(profile, first, second, x, i);
     }
     i
 }

@@ -1,52 +1,26 @@
 // An input, such as standard input, read to its end.
 #![tactic(auto)]
 
-ghost use Rattle.std.specs.Prelude.{◌≡◌, ◌≤◌, length, take};
-ghost use Rattle.input.specs.Input.{More, Within, Gave, Took};
+ghost use Rattle.std.specs.Prelude.{◌≤◌, length, IfOk};
+ghost use Rattle.input.specs.Input.{Took};
 
+use std::io;
 use std::io::Read;
 
-// What one read gave: so many octets, at least one; the input's end; or that it failed.
-#[derive(Clone, Copy)]
-pub enum Step {
-    Octets(usize),
-    End,
-    Failed,
-}
-
-// How many octets were read, to the end of the input or of the buffer; or that reading failed on the way.
-#[derive(Clone, Copy)]
-pub enum Input {
-    Whole(usize),
-    Broken,
-}
-
-// Reads once into text from index at on. A read that a signal interrupts counts as one that failed.
-fn read_at<R: Read>(input: &mut R, text: &mut [u8], at: usize) -> Step
-    requires { at ≤ length text.old }
-    ensures room { More at (length text.old) result }
-    ensures front { take at text.new ≡ take at text.old }
-    ensures gave { Gave (R.remaining input.old) (R.remaining input.new) text.new at result }
-{
-    match input.read(&mut text[at..]) {
-        Ok(0) => Step::End,
-        Ok(n) => Step::Octets(n),
-        Err(_) => Step::Failed,
-    }
-}
-
-// Reads into the front of text. A failed read is told apart from the input's end, so that no list loses its tail in silence.
-pub fn read_text<R: Read>(input: &mut R, text: &mut [u8]) -> Input
-    ensures room { Within (length text.old) result }
-    ensures took { Took (R.remaining input.old) (R.remaining input.new) text.new result }
+// Reads into the front of text, to the end of the input or of the buffer, and returns how many octets. A failed read is told apart
+// from the input's end, so that no list loses its tail in silence; one that a signal interrupts counts as one that failed.
+pub fn read_text<R: Read>(input: &mut R, text: &mut [u8]) -> io::Result<usize>
+    ensures room { IfOk result (λ n. n ≤ length text.old) }
+    ensures took { IfOk result (λ n. Took (R.remaining input.old) (R.remaining input.new) text.new n) }
 {
     let mut n = 0;
+    // no `for`: each read gives as many octets as it has
     while n < text.len() {
-        match read_at(input, text, n) {
-            Step::Octets(k) => n += k,
-            Step::End => return Input::Whole(n),
-            Step::Failed => return Input::Broken,
+        let more = input.read(&mut text[n..])?;
+        if more == 0 {
+            break;
         }
+        n += more;
     }
-    Input::Whole(n)
+    Ok(n)
 }

@@ -1,4 +1,5 @@
 pub mod OctetLaws
 pub mod OrderLaws
 pub mod PutLaws
+pub mod WriterLaws
 mod CompareLaws

@@ -1,10 +1,10 @@
--- What the code's answer `Order` says.
-use Prim.Native.Nat.{Ordering}
-use Rattle.octets.specs.declared.Order.{Order}
-use Rattle.octets.specs.declared.Order.TheVariants.{Less, Equal, Greater}
+-- What the library's answer `Ordering` says.
+use Prim.Native.Nat as nat
+use Rattle.std.specs.declared.cmp.Ordering.{Ordering}
+use Rattle.std.specs.declared.cmp.Ordering.TheVariants.{Less, Equal, Greater}
 
--- each case of `Order` as the order that it names
-abbrev pub order_of : Order → Ordering
-order_of Less = Ordering.lt
-order_of Equal = Ordering.eq
-order_of Greater = Ordering.gt
+-- each case of `Ordering` as the order that it names
+abbrev pub order_of : Ordering → nat.Ordering
+order_of Less = nat.Ordering.lt
+order_of Equal = nat.Ordering.eq
+order_of Greater = nat.Ordering.gt

@@ -6,60 +6,32 @@ ghost use Rattle.octets.specs.Order.{order, is_less};
 ghost use Rattle.octets.specs.Order as specs;
 ghost use Rattle.octets.specs.Compared.{order_of};
 ghost use Rattle.octets.specs.Put.{Wrote};
+ghost use Rattle.octets.specs.Writer.{HasRoom, Writes};
 
-// How one octet string stands to another.
-#[derive(Clone, Copy)]
-pub enum Order {
-    Less,
-    Equal,
-    Greater,
-}
+use std::cmp::Ordering;
 
 // Compares octet by octet from the first, as unsigned numbers; of two that agree as far as both go, the shorter is less.
-pub fn compare(a: &[u8], b: &[u8]) -> Order
+#[tactic(auto, using(crate::proofs::CompareLaws::order_of_cmp))]
+pub fn compare(a: &[u8], b: &[u8]) -> Ordering
     ensures { order_of result ≡ order a.now b.now }
 {
-    let mut i = 0;
-    while i < a.len() {
-        if b.len() <= i {
-            return Order::Greater;
-        }
-        if a[i] < b[i] {
-            return Order::Less;
-        }
-        if b[i] < a[i] {
-            return Order::Greater;
-        }
-        i += 1;
-    }
-    if i < b.len() {
-        return Order::Less;
-    }
-    Order::Equal
+    a.cmp(b)
 }
 
 // Whether the octets are the same, one by one.
+#[tactic(auto, using(crate::proofs::CompareLaws::pointwise_same))]
 pub fn same(a: &[u8], b: &[u8]) -> bool
     ensures { result ≡ specs.same a.now b.now }
 {
-    let o = compare(a, b);
-    match o {
-        Order::Equal => true,
-        Order::Less => false,
-        Order::Greater => false,
-    }
+    a == b
 }
 
 // Whether a stands below b.
+#[tactic(auto, using(crate::proofs::CompareLaws::is_lt_order))]
 pub fn below(a: &[u8], b: &[u8]) -> bool
     ensures { result ≡ is_less (order a.now b.now) }
 {
-    let o = compare(a, b);
-    match o {
-        Order::Less => true,
-        Order::Equal => false,
-        Order::Greater => false,
-    }
+    compare(a, b).is_lt()
 }
 
 // Copies all of src into out from index at, and returns the index past what was written.
@@ -67,10 +39,24 @@ pub fn put(out: &mut [u8], at: usize, src: &[u8]) -> usize
     requires { at + length src.now ≤ length out.old }
     ensures { Wrote out.old at src.now out.new result }
 {
-    let mut j = 0;
-    while j < src.len() {
-        out[at + j] = src[j];
-        j += 1;
+    let end = at + src.len();
+    out[at..end].copy_from_slice(src);
+    end
+}
+
+// A lent buffer that is written piece by piece: the next piece begins at index at.
+#[derive(Drop)]
+pub struct Writer<'a> {
+    pub out: &'a mut [u8],
+    pub at: usize,
+}
+
+impl Writer<'_> {
+    // Writes all of src.
+    pub fn put(&mut self, src: &[u8])
+        requires { HasRoom self.old src.now }
+        ensures { Writes self.old src.now self.new }
+    {
+        self.at = put(self.out, self.at, src);
     }
-    at + src.len()
 }

@@ -1,20 +1,25 @@
 -- A label has 32 octets in each profile, each below 256; and what is answered in a profile that is known, and in one that is not.
-use mathlib.Core.Path.{◌≡◌, refl, ap, ◌∙◌}
-use mathlib.Core.Bool.{Bool, true, false, cond}
+use mathlib.Core.Path.{◌≡◌, refl, sym, ap, ◌∙◌}
+use mathlib.Core.List.{◌++◌}
+use mathlib.Core.Bool.{Bool, true, false, cond, ◌||◌}
 use mathlib.Core.Logic.{◌⊎◌, inl, inr}
 use Prim.Native.Nat.{ℕ, ◌≤◌}
 use native.Mathlib.Omega.{arith}
-use borrow.Author.Tests.{eq-eqb, ne_eqb, eqb-true}
+use borrow.Author.Tests.{ne_eqb, eqb-true}
 use lib.Dec.{eqb}
-use lib.ListN.{length, take, replicate, length-append}
+use lib.ListN.{length, take, drop, replicate, length-append}
 use lib.Seq.{length-take-le}
 use Rattle.answer.specs.Refusals.{unknown_profile}
 use Rattle.octets.specs.Order.{Octets, AreOctets}
-use Rattle.octets.specs.Put.{Wrote}
 use Rattle.octets.proofs.OctetLaws.{octets_append, octets_take, octets_zeros}
-use Rattle.octets.proofs.PutLaws.{put_front}
 use Rattle.sha256.specs.Fips180.{sha256}
 use Rattle.sha256.proofs.Fips180Laws.{sha256_length, sha256_octets}
+use Rattle.profile.specs.declared.Profile.{Profile}
+use Rattle.profile.specs.declared.Profile.TheVariants.{Full, Drill}
+use Rattle.std.specs.Prelude.{Result, Ok, Err}
+use Rattle.std.specs.Result.{is_ok, result_unwrap_or}
+use Rattle.answer.specs.declared.Refusal.{Refusal}
+use Rattle.profile.specs.Named.{number_of_profile, Names}
 use Rattle.profile.specs.Profile.{full, drill, known, short, kept, label, in_profile}
 
 front_length : (n : ℕ) (h : Octets) → n ≤ 32 → length h ≡ 32 → length (take n h) ≡ n
@@ -54,28 +59,47 @@ pub drill_known : known drill ≡ true
 unfolding known
 drill_known = refl
 
+-- where there is no profile of a number, its label is the full one
+pub label_unknown : (profile : ℕ) → known profile ≡ false → label profile ≡ label full
+unfolding known label kept
+label_unknown profile k = ap {B = Octets → Octets} (λ (b : Bool) (r : Octets). cond b (short (sha256 r)) (sha256 r)) (go (eqb profile full) (eqb profile drill) k)
+  where
+    go : (a b : Bool) → a || b ≡ false → b ≡ false
+    go true b e = cc
+    go false b e = e
+
+pub named_known : (p : Profile) → known (number_of_profile p) ≡ true
+unfolding known
+named_known Full = refl
+named_known Drill = refl
+
+-- what a number names, in the functions that take numbers
+
+pub known_by_number : (n : ℕ) (r : Result Profile Refusal) → Names n r → is_ok r ≡ known n
+known_by_number n (Ok p) e = sym (rw e (named_known p))
+known_by_number n (Err r) e = sym e.0
+
+pub labels_by_number : (n : ℕ) (r : Result Profile Refusal) → Names n r → label (number_of_profile (result_unwrap_or r Full)) ≡ label n
+labels_by_number n (Ok p) e = rw e
+labels_by_number n (Err r) e = sym (label_unknown n e.0)
+
+pub label_by_number : (n : ℕ) (r : Result Profile Refusal) (s : Octets) → Names n r
+    → label (number_of_profile (result_unwrap_or r Full)) s ≡ label n s
+label_by_number n r s e = ap (λ (H : Octets → Octets). H s) (labels_by_number n r e)
+
 -- The ends of the code
 
-pub is_full : (profile : ℕ) → profile ≡ full → true ≡ known profile
+pub no_profile : (n : ℕ) → (n ≡ full → ⊥) → (n ≡ drill → ⊥) → known n ≡ false
 unfolding known
-is_full profile e = rw (eq-eqb profile full e)
+no_profile n e f = rw (ne_eqb n full e, ne_eqb n drill f)
 
-pub not_full : (profile : ℕ) → (profile ≡ full → ⊥) → eqb profile drill ≡ known profile
-unfolding known
-not_full profile e = rw (ne_eqb profile full e)
+module _ (r : Octets) {h : Octets} (e : h ≡ sha256 r) where
+  pub label_whole : h ≡ label full r
+  label_whole = e ∙ sym (label_full r)
 
-module _ (profile : ℕ) (r : Octets) {h : Octets} (e : h ≡ sha256 r) where
-  pub label_whole : (profile ≡ drill → ⊥) → h ≡ label profile r
-  unfolding label kept
-  label_whole n = rw (ne_eqb profile drill n) e
-
-  pub kept_length : (n : ℕ) → n ≤ 32 → length (take n h) ≡ n
-  kept_length n f = front_length n h f (ap length e ∙ sha256_length r)
-
-  pub label_short : profile ≡ drill → {o : Octets} {q : ℕ} → Wrote (replicate 32 0) 0 (take 2 h) o q → o ≡ label profile r
-  unfolding label kept
-  label_short d {o} w =
-      w.left ∙ put_front (replicate 32 0) (take 2 h) ∙ rw (kept_length 2 (omega arith), eq-eqb profile drill d, e)
+  -- of 32 zeros the first 2 are written over by the hash's
+  pub label_short : {s : Octets} → s ≡ take 2 h → s ++ drop 2 (replicate 32 0) ≡ label drill r
+  label_short {s} w = rw (w, e, label_drill r)
 
 -- 17, or what is answered
 

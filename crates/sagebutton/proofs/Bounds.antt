@@ -7,10 +7,9 @@ use native.Mathlib.Omega.{arith}
 use borrow.Author.Tests.{ltb-false, eqb-true}
 use lib.Dec.{ltb, eqb, leb}
 use lib.ListN.{length}
-use Rattle.answer.specs.declared.Answer.{Answer}
-use Rattle.answer.specs.declared.Answer.TheVariants.{Done, Refused}
-use Rattle.answer.specs.declared.Verdict.{Verdict}
-use Rattle.answer.specs.declared.Verdict.TheVariants as verdict
+use Rattle.answer.specs.Answer.{Answer, Done, Refused}
+use Rattle.answer.specs.Verdict.{Verdict}
+use Rattle.answer.specs.Verdict as verdict
 use Rattle.answer.specs.Refusals.{size, too_short, form, unknown_profile, IsRefusal}
 use Rattle.octets.specs.Order.{Octets, AreOctets}
 use Rattle.sha256.specs.Hash.{hash_answer}

@@ -8,8 +8,7 @@ use Prim.Native.Nat.{ℕ, ◌*◌}
 use native.Mathlib.Omega.{arith}
 use lib.ListN.{length, take, drop, length-map}
 use lib.Seq.{take_at, take_all}
-use Rattle.answer.specs.declared.Answer.TheVariants.{Done}
-use Rattle.answer.specs.Answer.{written}
+use Rattle.answer.specs.Answer.{Done, written}
 use Rattle.octets.specs.Order.{Octets, order}
 use Rattle.octets.proofs.OrderLaws.{is_less_true}
 use Rattle.attester.specs.Entry.{key, entries}
@@ -28,7 +27,7 @@ use Rattle.codes.proofs.NothingSkipped.{nothing_skipped, every_listing_accepted}
 use Rattle.attester.specs.Extract.{extracted}
 use Rattle.attester.specs.Extract as extraction
 use Rattle.extractor.specs.Extract.{extraction_answer}
-use Rattle.contradiction.specs.declared.Outcome.TheVariants as outcome
+use Rattle.contradiction.specs.Outcome as outcome
 use Rattle.contradiction.specs.Drill.{Drilling, number, no_number, refused, drilling, drill_answer, first_buffer, second_buffer, Drilled}
 use Rattle.sagebutton.specs.Demand1.{Demand1, WrittenIsTheList}
 

@@ -9,12 +9,9 @@ use borrow.Author.Tests.{eq-eqb, eqb-true, le-leb, leb-true}
 use lib.Dec.{eqb, leb}
 use lib.ListN.{length, take, drop}
 use lib.Seq.{take_at}
-use Rattle.answer.specs.declared.Answer.{Answer}
-use Rattle.answer.specs.declared.Answer.TheVariants.{Done, Refused}
-use Rattle.answer.specs.declared.Verdict.{Verdict}
-use Rattle.answer.specs.declared.Verdict.TheVariants.{Present, Absent}
-use Rattle.answer.specs.declared.Verdict.TheVariants as verdicts
-use Rattle.answer.specs.Answer.{written}
+use Rattle.answer.specs.Answer.{Answer, Done, Refused, written}
+use Rattle.answer.specs.Verdict.{Verdict, Present, Absent}
+use Rattle.answer.specs.Verdict as verdicts
 use Rattle.answer.proofs.WrittenLaws.{written_whole}
 use Rattle.answer.specs.Refusals.{size, too_short}
 use Rattle.octets.specs.Order.{Octets}

@@ -7,12 +7,9 @@ use Prim.Native.Nat.{ℕ}
 use native.Mathlib.Omega.{arith}
 use borrow.Author.Tests.{eq-eqb}
 use lib.ListN.{length}
-use Rattle.answer.specs.declared.Answer.{Answer}
-use Rattle.answer.specs.declared.Answer.TheVariants.{Done, Refused}
-use Rattle.answer.specs.declared.Verdict.TheVariants.{Present, Absent}
-use Rattle.answer.specs.declared.Verdict.{Verdict}
-use Rattle.answer.specs.declared.Verdict.TheVariants as verdicts
-use Rattle.answer.specs.Answer.{written}
+use Rattle.answer.specs.Answer.{Answer, Done, Refused, written}
+use Rattle.answer.specs.Verdict.{Present, Absent, Verdict}
+use Rattle.answer.specs.Verdict as verdicts
 use Rattle.answer.proofs.WrittenLaws.{written_whole}
 use Rattle.answer.specs.Refusals.{unknown_profile}
 use Rattle.octets.specs.Order.{Octets}

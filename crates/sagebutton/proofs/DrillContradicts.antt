@@ -7,8 +7,8 @@ use mathlib.Core.Logic.{inr}
 use Prim.Native.Nat.{ℕ}
 use native.Mathlib.Omega.{arith}
 use lib.ListN.{length, get_or}
-use Rattle.answer.specs.declared.Verdict.TheVariants.{Present, Absent}
-use Rattle.answer.specs.declared.Verdict.TheVariants as verdicts
+use Rattle.answer.specs.Verdict.{Present, Absent}
+use Rattle.answer.specs.Verdict as verdicts
 use Rattle.octets.specs.Order.{Octets}
 use Rattle.octets.proofs.OrderLaws.{same_refl}
 use Rattle.sha256.specs.Fips180.{octets, sha256}

@@ -6,9 +6,9 @@ use mathlib.Core.Logic.{inl, inr}
 use Prim.Native.Nat.{ℕ}
 use native.Mathlib.Omega.{arith}
 use lib.ListN.{length}
-use Rattle.answer.specs.declared.Answer.TheVariants.{Done}
-use Rattle.answer.specs.declared.Verdict.TheVariants.{Present, Absent}
-use Rattle.answer.specs.declared.Verdict.TheVariants as verdicts
+use Rattle.answer.specs.Answer.{Done}
+use Rattle.answer.specs.Verdict.{Present, Absent}
+use Rattle.answer.specs.Verdict as verdicts
 use Rattle.octets.specs.Order.{Octets}
 use Rattle.profile.specs.Profile.{known, label}
 use Rattle.profile.proofs.ProfileLaws.{label_length, in_known}

@@ -2,9 +2,8 @@
 use mathlib.Core.Path.{◌≡◌, refl, ap, ◌∙◌}
 use Prim.Native.Nat.{ℕ}
 use lib.ListN.{length}
-use Rattle.answer.specs.declared.Answer.TheVariants.{Refused}
-use Rattle.answer.specs.declared.Verdict.TheVariants as verdict
-use Rattle.answer.specs.Answer.{written, packed, verdict_packed}
+use Rattle.answer.specs.Answer.{Refused, written, packed, verdict_packed}
+use Rattle.answer.specs.Verdict as verdict
 use Rattle.octets.specs.Order.{Octets}
 use Rattle.sha256.specs.Fips180.{sha256}
 use Rattle.sha256.specs.Hash.{Hashed, hash_answer}

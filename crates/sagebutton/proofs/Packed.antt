@@ -4,14 +4,12 @@ use mathlib.Core.Path.{◌≡◌, refl, ◌∙◌}
 use Prim.Native.Nat.{ℕ, ◌+◌, ◌*◌, ◌^◌, ◌≤◌, ◌<◌}
 use native.Mathlib.Omega.{arith}
 use borrow.Author.Tests.{ne_eqb}
-use Rattle.answer.specs.declared.Answer.{Answer}
-use Rattle.answer.specs.declared.Answer.TheVariants.{Done, Refused}
-use Rattle.answer.specs.declared.Verdict.{Verdict}
-use Rattle.answer.specs.declared.Verdict.TheVariants as verdict
+use Rattle.answer.specs.Answer.{Answer, Done, Refused, number, value, packed, verdict_number, verdict_value, verdict_packed}
+use Rattle.answer.specs.Verdict.{Verdict}
+use Rattle.answer.specs.Verdict as verdict
 use Rattle.answer.specs.Refusals.{IsRefusal}
-use Rattle.answer.specs.Answer.{number, value, packed, verdict_number, verdict_value, verdict_packed}
-use Rattle.contradiction.specs.declared.Outcome.{Outcome}
-use Rattle.contradiction.specs.declared.Outcome.TheVariants as outcome
+use Rattle.contradiction.specs.Outcome.{Outcome}
+use Rattle.contradiction.specs.Outcome as outcome
 use Rattle.contradiction.specs.Drill.{drill_number, drill_none, drill_value, drill_packed}
 use Rattle.sagebutton.specs.Bounds.{RefusalsWithin, AnswersWithin}
 use Rattle.sagebutton.specs.Packed.{Bits, Accepted, VerdictAccepted, DrillAccepted, unpacked, unpacked_verdict, unpacked_drill, Tells, AnswersTold, VerdictsTold, OutcomesTold, NumbersTell}

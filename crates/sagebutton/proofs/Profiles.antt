@@ -3,10 +3,8 @@ use mathlib.Core.Path.{◌≡◌, ◌∙◌}
 use mathlib.Core.Bool.{false}
 use Prim.Native.Nat.{ℕ}
 use lib.ListN.{length}
-use Rattle.answer.specs.declared.Answer.{Answer}
-use Rattle.answer.specs.declared.Answer.TheVariants.{Refused}
-use Rattle.answer.specs.declared.Verdict.TheVariants as verdict
-use Rattle.answer.specs.Answer.{written}
+use Rattle.answer.specs.Answer.{Answer, Refused, written}
+use Rattle.answer.specs.Verdict as verdict
 use Rattle.octets.specs.Order.{Octets}
 use Rattle.profile.specs.Profile.{known, label}
 use Rattle.profile.proofs.ProfileLaws.{full_known, drill_known, known_numbers, label_full, label_drill, in_unknown}

@@ -1,4 +1,5 @@
 -- Each statement by its own proof.
+use Rattle.answer.proofs.SaidLaws.{answers_tell}
 use Rattle.sha256.proofs.Standard.{standard_says}
 use Rattle.sha256.proofs.Examples as sha256
 use Rattle.attester.proofs.Demand2 as theory2
@@ -6,6 +7,7 @@ use Rattle.attester.proofs.Demand3 as theory3
 use Rattle.attester.proofs.DepthLaws.{depth_of_tree}
 use Rattle.examples.proofs.Box.{examples_hold}
 use Rattle.examples.proofs.Values.{values}
+use Rattle.contradiction.proofs.PackedLaws.{outcomes_tell}
 use Rattle.contradiction.proofs.Shows.{shows}
 use Rattle.sagebutton.specs.Proved.{Proved}
 use Rattle.sagebutton.proofs.Bounds.{bounds}
@@ -33,6 +35,8 @@ proved = record {
   bounds = bounds;
   numbers_tell = numbers_tell;
   verdicts_unmistakable = verdicts_unmistakable;
+  answers_tell = answers_tell;
+  outcomes_tell = outcomes_tell;
   profiles = profiles;
   drill_shows = shows;
   drill_contradicts = drill_contradicts;

@@ -2,8 +2,7 @@
 use mathlib.Core.Path.{◌≡◌, sym, ◌∙◌}
 use Prim.Native.Nat.{ℕ, ◌%◌, ◌^◌}
 use native.Mathlib.Omega.{arith}
-use Rattle.answer.specs.declared.Verdict.{Verdict}
-use Rattle.answer.specs.declared.Verdict.TheVariants.{Present, Absent, Refused}
+use Rattle.answer.specs.Verdict.{Verdict, Present, Absent, Refused}
 use Rattle.answer.specs.Answer.{present_number, absent_number, verdict_value, verdict_packed}
 use Rattle.octets.specs.Order.{Octets}
 use Rattle.attestation.specs.Verify.{Verified}

@@ -9,8 +9,7 @@ use Prim.Native.Nat.{ℕ, zero, suc}
 use native.Mathlib.Omega.{arith}
 use borrow.Author.Tests.{eq-eqb}
 use lib.ListN.{length, get_or, replicate}
-use Rattle.answer.specs.declared.Answer.{Answer}
-use Rattle.answer.specs.declared.Answer.TheVariants.{Refused}
+use Rattle.answer.specs.Answer.{Answer, Refused}
 use Rattle.octets.specs.Order.{Octets}
 use Rattle.sha256.specs.Fips180.{octets}
 use Rattle.profile.specs.Profile.{drill, label}

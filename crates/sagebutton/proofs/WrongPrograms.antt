@@ -9,11 +9,9 @@ use Prim.Native.Nat.{ℕ, ◌≤◌, ◌<◌}
 use native.Mathlib.Omega.{arith}
 use borrow.Author.Tests.{le-leb, le-ltb}
 use lib.ListN.{length, drop, replicate, get_or}
-use Rattle.answer.specs.declared.Answer.{Answer}
-use Rattle.answer.specs.declared.Answer.TheVariants.{Done, Refused}
-use Rattle.answer.specs.declared.Verdict.{Verdict}
-use Rattle.answer.specs.declared.Verdict.TheVariants as verdict
-use Rattle.answer.specs.Answer.{written}
+use Rattle.answer.specs.Answer.{Answer, Done, Refused, written}
+use Rattle.answer.specs.Verdict.{Verdict}
+use Rattle.answer.specs.Verdict as verdict
 use Rattle.answer.specs.Refusals.{too_short}
 use Rattle.octets.specs.Order.{Octets, AreOctets, order, same}
 use Rattle.octets.proofs.OctetLaws.{octets_append, octets_zeros}

@@ -1,9 +1,8 @@
 -- How large the answers are, of the promises alone: what an accepted call answers, and a refusal's number and place. Proved in
 -- `proofs/Bounds.antt`.
 use Rattle.std.specs.Prelude.{◌≡◌, true, ℕ, ◌^◌, ◌≤◌, ◌<◌, length}
-use Rattle.answer.specs.declared.Answer.{Answer}
-use Rattle.answer.specs.declared.Answer.TheVariants.{Done, Refused}
-use Rattle.answer.specs.declared.Verdict.TheVariants as verdict
+use Rattle.answer.specs.Answer.{Answer, Done, Refused}
+use Rattle.answer.specs.Verdict as verdict
 use Rattle.answer.specs.Refusals.{form, IsRefusal}
 use Rattle.octets.specs.Order.{Octets, AreOctets}
 use Rattle.sha256.specs.Hash.{Hashed}
@@ -13,7 +12,7 @@ use Rattle.tree.specs.Digest.{Digested}
 use Rattle.attestation.specs.Attest.{Attested}
 use Rattle.attestation.specs.Verify.{Verified}
 use Rattle.extractor.specs.Extract.{Extracted}
-use Rattle.contradiction.specs.declared.Outcome.TheVariants as outcome
+use Rattle.contradiction.specs.Outcome as outcome
 use Rattle.contradiction.specs.Drill.{Drilled}
 
 -- every refusal that a promise permits has a number of 1 to 17, and a place of at most `place`

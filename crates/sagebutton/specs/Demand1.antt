@@ -1,8 +1,7 @@
 -- Demand 1 (`docs/PROMISES.md`): a refusal leaves the lent buffers as they were, and no line of a list is skipped. Proved in
 -- `proofs/Demand1.antt`; that every input has an answer, and one only, is `OneOutcome`.
 use Rattle.std.specs.Prelude.{◌≡◌, map, ℕ}
-use Rattle.answer.specs.declared.Answer.{Answer}
-use Rattle.answer.specs.declared.Answer.TheVariants.{Done, Refused}
+use Rattle.answer.specs.Answer.{Answer, Done, Refused}
 use Rattle.octets.specs.Order.{Octets}
 use Rattle.sha256.specs.Hash.{Hashed}
 use Rattle.attester.specs.Entry.{entries}
@@ -12,7 +11,7 @@ use Rattle.tree.specs.Digest.{Digested}
 use Rattle.tree.specs.Edition.{width}
 use Rattle.attestation.specs.Attest.{Attested}
 use Rattle.extractor.specs.Extract.{Extracted}
-use Rattle.contradiction.specs.declared.Outcome.TheVariants as outcome
+use Rattle.contradiction.specs.Outcome as outcome
 use Rattle.contradiction.specs.Drill.{Drilled}
 
 -- a refused call leaves its buffer as it was

@@ -4,10 +4,8 @@
 -- verdicts and extractor alike"; `attester` has the same over any function from records to labels.
 use Rattle.std.specs.Prelude.{◌≡◌, true, cond, ℕ, ◌*◌, ◌≤◌, leb, length, take}
 use mathlib.Core.List.{List, flatten}
-use Rattle.answer.specs.declared.Answer.{Answer}
-use Rattle.answer.specs.declared.Answer.TheVariants.{Done, Refused}
-use Rattle.answer.specs.declared.Verdict.{Verdict}
-use Rattle.answer.specs.declared.Verdict.TheVariants.{Present, Absent}
+use Rattle.answer.specs.Answer.{Answer, Done, Refused}
+use Rattle.answer.specs.Verdict.{Verdict, Present, Absent}
 use Rattle.answer.specs.Refusals.{too_short}
 use Rattle.octets.specs.Order.{Octets}
 use Rattle.profile.specs.Profile.{known, label}

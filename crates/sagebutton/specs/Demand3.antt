@@ -4,9 +4,8 @@
 -- the profile's label, "under one profile number throughout: digest, issue, both verdicts and extractor alike"; `attester` has the same
 -- over any function from records to labels.
 use Rattle.std.specs.Prelude.{◌≡◌, [], ◌∷◌, ◌⊎◌, ℕ, length}
-use Rattle.answer.specs.declared.Answer.{Answer}
-use Rattle.answer.specs.declared.Answer.TheVariants.{Done}
-use Rattle.answer.specs.declared.Verdict.TheVariants.{Present, Absent}
+use Rattle.answer.specs.Answer.{Answer, Done}
+use Rattle.answer.specs.Verdict.{Present, Absent}
 use Rattle.octets.specs.Order.{Octets}
 use Rattle.sha256.specs.Hash.{Hashed}
 use Rattle.profile.specs.Profile.{drill, kept, label}

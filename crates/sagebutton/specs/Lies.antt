@@ -1,8 +1,8 @@
 -- What demands 2 and 3 say together of a stranger's attestation under a digest that we published: whoever gets a lie accepted has
 -- contradicted our own attestation, and `extract` turns the two into a collision. Proved in `proofs/Lies.antt`.
 use Rattle.std.specs.Prelude.{◌≡◌, true, false, ◌⊎◌, ℕ}
-use Rattle.answer.specs.declared.Answer.TheVariants.{Done}
-use Rattle.answer.specs.declared.Verdict.TheVariants.{Present, Absent}
+use Rattle.answer.specs.Answer.{Done}
+use Rattle.answer.specs.Verdict.{Present, Absent}
 use Rattle.octets.specs.Order.{Octets}
 use Rattle.profile.specs.Profile.{label}
 use Rattle.attester.specs.Entry.{entries}

@@ -1,7 +1,7 @@
 -- 01, "Promises that bind": "every input has one permitted answer and one permitted final content of each lent buffer". Proved in
 -- `proofs/OneOutcome.antt`.
 use Rattle.std.specs.Prelude.{◌≡◌, ℕ}
-use Rattle.answer.specs.declared.Verdict.{Verdict}
+use Rattle.answer.specs.Verdict.{Verdict}
 use Rattle.answer.specs.Answer.{packed, verdict_packed}
 use Rattle.octets.specs.Order.{Octets}
 use Rattle.sha256.specs.Hash.{Hashed}

@@ -1,11 +1,9 @@
 -- What an exported function promises: the number that stands for an answer which meets the promise. And `NumbersTell`: whatever a
 -- promise permits, its number has the bits that the header says, and tells the answer. Proved in `proofs/Packed.antt`.
 use Rattle.std.specs.Prelude.{◌≡◌, cond, ℕ, ◌/◌, ◌%◌, ◌^◌, ◌<◌, eqb}
-use Rattle.answer.specs.declared.Answer.{Answer}
-use Rattle.answer.specs.declared.Answer.TheVariants.{Done, Refused}
-use Rattle.answer.specs.declared.Verdict.{Verdict}
-use Rattle.answer.specs.declared.Verdict.TheVariants as verdict
-use Rattle.answer.specs.Answer.{number, value, packed, verdict_number, present_number, verdict_value, verdict_packed}
+use Rattle.answer.specs.Answer.{Answer, Done, Refused, number, value, packed, verdict_number, present_number, verdict_value, verdict_packed}
+use Rattle.answer.specs.Verdict.{Verdict}
+use Rattle.answer.specs.Verdict as verdict
 use Rattle.octets.specs.Order.{Octets}
 use Rattle.sha256.specs.Hash.{Hashed}
 use Rattle.codes.specs.Read.{Read}
@@ -13,8 +11,8 @@ use Rattle.tree.specs.Digest.{Digested}
 use Rattle.attestation.specs.Attest.{Attested}
 use Rattle.attestation.specs.Verify.{Verified}
 use Rattle.extractor.specs.Extract.{Extracted}
-use Rattle.contradiction.specs.declared.Outcome.{Outcome}
-use Rattle.contradiction.specs.declared.Outcome.TheVariants as outcome
+use Rattle.contradiction.specs.Outcome.{Outcome}
+use Rattle.contradiction.specs.Outcome as outcome
 use Rattle.contradiction.specs.Drill.{Drilled, drill_number, drill_none, drill_value, drill_packed}
 
 -- r is the number, by `pack`, of some answer that meets the promise

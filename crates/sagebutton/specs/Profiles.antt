@@ -1,9 +1,8 @@
 -- 02 (vi): what hangs on a profile's number, of the promises. Proved in `proofs/Profiles.antt`.
 use Rattle.std.specs.Prelude.{◌≡◌, true, false, ◌++◌, ◌⊎◌, ℕ, take, replicate}
-use Rattle.answer.specs.declared.Answer.{Answer}
-use Rattle.answer.specs.declared.Answer.TheVariants.{Refused}
-use Rattle.answer.specs.declared.Verdict.{Verdict}
-use Rattle.answer.specs.declared.Verdict.TheVariants as verdict
+use Rattle.answer.specs.Answer.{Answer, Refused}
+use Rattle.answer.specs.Verdict.{Verdict}
+use Rattle.answer.specs.Verdict as verdict
 use Rattle.octets.specs.Order.{Octets}
 use Rattle.sha256.specs.Fips180.{sha256}
 use Rattle.profile.specs.Profile.{known, label}

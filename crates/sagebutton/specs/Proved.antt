@@ -3,6 +3,7 @@
 -- and in no contract, is not claimed.
 use Rattle.std.specs.Prelude.{◌≡◌, List, ℕ, length}
 use Rattle.octets.specs.Order.{Octets}
+use Rattle.answer.specs.Tells.{AnswersTell}
 use Rattle.sha256.specs.Standard.{StandardSays}
 use Rattle.sha256.specs.Examples as sha256
 use Rattle.attester.specs.Tree.{tree}
@@ -11,6 +12,7 @@ use Rattle.attester.specs.Demand2 as theory2
 use Rattle.attester.specs.Demand3 as theory3
 use Rattle.examples.specs.Box.{ExamplesHold}
 use Rattle.examples.specs.Values.{Values}
+use Rattle.contradiction.specs.Outcome.{OutcomesTell}
 use Rattle.contradiction.specs.Shows.{Shows}
 use Rattle.sagebutton.specs.Bounds.{Bounds}
 use Rattle.sagebutton.specs.Packed.{NumbersTell}
@@ -40,6 +42,9 @@ pub record Proved : Type 0 where
   pub bounds : Bounds
   pub numbers_tell : NumbersTell
   pub verdicts_unmistakable : VerdictsUnmistakable
+  -- and that no two answers of the code say the same
+  pub answers_tell : AnswersTell
+  pub outcomes_tell : OutcomesTell
   -- the profiles, and the drill
   pub profiles : Profiles
   pub drill_shows : Shows

@@ -1,7 +1,7 @@
 -- A verdict can't be mistaken for another, nor a refusal for a verdict, even by a caller who keeps only the low 32 bits of the number
 -- and looks at nothing else. Proved in `proofs/VerdictNumber.antt`.
 use Rattle.std.specs.Prelude.{◌≡◌, ℕ, ◌%◌, ◌^◌}
-use Rattle.answer.specs.declared.Verdict.TheVariants.{Present, Absent, Refused}
+use Rattle.answer.specs.Verdict.{Present, Absent, Refused}
 use Rattle.answer.specs.Answer.{present_number, absent_number, verdict_packed}
 use Rattle.octets.specs.Order.{Octets}
 use Rattle.attestation.specs.Verify.{Verified}

@@ -2,9 +2,8 @@
 -- and `WrongProgramsRejected` that none which does so keeps the promise. Proved in `proofs/WrongPrograms.antt`.
 use Rattle.std.specs.Prelude.{◌≡◌, true, cond, ◌⊎◌, ℕ, ◌≤◌, length}
 use mathlib.Core.List.{List, flatten}
-use Rattle.answer.specs.declared.Answer.{Answer}
-use Rattle.answer.specs.declared.Answer.TheVariants.{Done, Refused}
-use Rattle.answer.specs.declared.Verdict.TheVariants as verdict
+use Rattle.answer.specs.Answer.{Answer, Done, Refused}
+use Rattle.answer.specs.Verdict as verdict
 use Rattle.answer.specs.Refusals.{too_short}
 use Rattle.octets.specs.Order.{Octets, AreOctets}
 use Rattle.sha256.specs.Hash.{Hashed}

@@ -1,6 +1,5 @@
 -- The bits of octet strings: an octet of a number is eight of its bits, so the padding's octets are the standard's bits.
-use Rattle.std.proofs.Common.{◌≡◌, ℕ, zero, suc, ◌+◌, ◌*◌, ◌/◌, ◌%◌, ◌^◌, [], ◌∷◌, ◌++◌, replicate, sym, refl, ap, ◌∙◌, ap₂, append_assoc, mul_assoc, pow-suc, arith}
-use native.Mathlib.Nat.{div-div-eq-div-mul}
+use Rattle.std.proofs.Common.{◌≡◌, ℕ, zero, suc, ◌+◌, ◌*◌, ◌/◌, ◌%◌, ◌^◌, [], ◌∷◌, ◌++◌, replicate, sym, refl, ap, ◌∙◌, ap₂, append_assoc, add_comm, pow-suc, pow-add, shr-shr, arith}
 use lib.ListN.{replicate-append-replicate}
 use Rattle.octets.specs.Order.{Octets}
 use Rattle.sha256.specs.Fips180.{octets, zeros}
@@ -18,24 +17,18 @@ bits_zeros (suc n) =
     let e : 8 * suc n ≡ 8 + 8 * n = omega arith in
     rw (bits_zeros n, e) (replicate-append-replicate {A = ℕ} 8 (8 * n) 0)
 
-power_add : (k m : ℕ) → 2 ^ (k + m) ≡ 2 ^ m * 2 ^ k
-power_add zero m = let e : zero + m ≡ m = omega arith in rw e (omega arith)
-power_add (suc k) m =
-    let e : suc k + m ≡ suc (k + m) = omega arith in
-    rw (e, pow-suc 2 (k + m), power_add k m, pow-suc 2 k) (mul_assoc (2 ^ m) (2 ^ k) 2)
-
 power_octets : (n : ℕ) → 256 ^ n ≡ 2 ^ (8 * n)
 power_octets zero = refl
 power_octets (suc n) =
     let e : 8 * suc n ≡ 8 + 8 * n = omega arith in
-    rw (e, power_add 8 (8 * n), pow-suc 256 n, power_octets n)
+    rw (e, pow-add 2 8 (8 * n), pow-suc 256 n, power_octets n) (omega arith)
 
 binary_add : (k m x : ℕ) → binary (k + m) x ≡ binary k (x / 2 ^ m) ++ binary m x
 unfolding binary
 binary_add zero m x = let e : zero + m ≡ m = omega arith in rw e
 binary_add (suc k) m x =
     let e : suc k + m ≡ suc (k + m) = omega arith in
-    rw (e, binary_add k m x, power_add k m, div-div-eq-div-mul x (2 ^ m) (2 ^ k))
+    rw (e, binary_add k m x, shr-shr x m k, add_comm k m)
 
 -- the last eight bits are those of the last octet
 binary_octet : (x : ℕ) → binary 8 (x % 256) ≡ binary 8 x

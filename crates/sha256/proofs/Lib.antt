@@ -4,8 +4,7 @@ mod HashLaws
 pub mod Examples
 mod Bits
 mod WordLaws
-mod DigestLaws
-mod TurnLaws
+mod ChunkLaws
 mod ScheduleLaws
 mod BlockLaws
 mod PaddingLaws

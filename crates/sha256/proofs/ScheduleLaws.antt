@@ -1,5 +1,6 @@
 -- A store at t of W_t makes the first t + 1 words of the schedule of the first t.
-use Rattle.std.proofs.Common.{◌≡◌, ℕ, zero, suc, ◌-◌, ◌<◌, ◌≤◌, Bool, true, false, ltb, List, [], ◌∷◌, ◌++◌, length, get_or, take, set, sym, refl, ◌∙◌, not-suc-le-zero, arith, length-append, get_or-take, take-suc-set, ltb-false, ltb-true, le-ltb, lt-ltb}
+use Rattle.std.proofs.Common.{◌≡◌, ℕ, zero, suc, ◌+◌, ◌-◌, ◌<◌, ◌≤◌, Bool, true, false, ltb, List, [], ◌∷◌, ◌++◌, length, get_or, take, set, sym, refl, ◌∙◌, not-suc-le-zero, arith, length-append, get_or-take, add-one, ltb-false, ltb-true, le-ltb, lt-ltb}
+use Rattle.std.proofs.lemmas.List.{take_more_set}
 use lib.ListN.{get_or-append}
 use lib.Seq.{get_or_at}
 use Rattle.octets.specs.Order.{Octets}
@@ -52,13 +53,13 @@ schedule_next b n t l h =
     schedule_at b n t h ∙ W_next b (schedule b t) t l
     ∙ rw (k (t - 2) (omega arith), k (t - 7) (omega arith), k (t - 15) (omega arith), k (t - 16) (omega arith))
 
-module _ (b : Octets) (t u : ℕ) (e : u ≡ suc t) (w : List ℕ) (h : t < length w) (p : take t w ≡ schedule b t) where
-  word_more : (v : ℕ) → v ≡ W b (schedule b t) t → take u (set w t v) ≡ schedule b u
+module _ (b : Octets) (t : ℕ) (w : List ℕ) (h : t < length w) (p : take t w ≡ schedule b t) where
+  word_more : (v : ℕ) → v ≡ W b (schedule b t) t → take (t + 1) (set w t v) ≡ schedule b (t + 1)
   unfolding schedule
-  word_more v q = rw (e, take-suc-set w t v h, p, q)
+  word_more v q = rw (take_more_set w t v h, p, q, add-one)
 
-  pub block_word_more : {v : ℕ} → t < 16 → v ≡ M b t → take u (set w t v) ≡ schedule b u
+  pub block_word_more : {v : ℕ} → t < 16 → v ≡ M b t → take (t + 1) (set w t v) ≡ schedule b (t + 1)
   block_word_more {v} l q = word_more v (rw (W_block b (schedule b t) t l) q)
 
-  pub next_word_more : {v : ℕ} → 16 ≤ t → v ≡ next w t → take u (set w t v) ≡ schedule b u
+  pub next_word_more : {v : ℕ} → 16 ≤ t → v ≡ next w t → take (t + 1) (set w t v) ≡ schedule b (t + 1)
   next_word_more {v} l q = word_more v (rw (W_next b (schedule b t) t l, ← p, next_take w t l) q)

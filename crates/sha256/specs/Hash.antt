@@ -1,9 +1,7 @@
 -- The promise of `hash` (01: "Hashing answers 1 for a message over 65,535 octets or an output not of 32").
 use Rattle.std.specs.Prelude.{◌≡◌, ℕ, cond, not, ◌||◌, length, ◌==◌, nat_lt}
-use Rattle.answer.specs.Answer.{written}
+use Rattle.answer.specs.Answer.{written, Answer, Done, Refused}
 use Rattle.answer.specs.Refusals.{size}
-use Rattle.answer.specs.declared.Answer.{Answer}
-use Rattle.answer.specs.declared.Answer.TheVariants.{Done, Refused}
 use Rattle.octets.specs.Order.{Octets}
 use Rattle.sha256.specs.Fips180.{sha256}
 

@@ -1,7 +1,4 @@
 // The constants of FIPS 180-4: those of the turns (section 4.2.2) and the initial hash value (section 5.3.3).
-ghost use Rattle.std.specs.Prelude.{◌≡◌};
-ghost use Rattle.sha256.specs.Fips180.{H0};
-
 use crate::compress::State;
 
 pub const K: [u32; 64] = [
@@ -15,17 +12,13 @@ pub const K: [u32; 64] = [
     0x748f82ee, 0x78a5636f, 0x84c87814, 0x8cc70208, 0x90befffa, 0xa4506ceb, 0xbef9a3f7, 0xc67178f2,
 ];
 
-pub fn initial() -> State
-    ensures { result ≡ H0 }
-{
-    State {
-        a: 0x6a09e667,
-        b: 0xbb67ae85,
-        c: 0x3c6ef372,
-        d: 0xa54ff53a,
-        e: 0x510e527f,
-        f: 0x9b05688c,
-        g: 0x1f83d9ab,
-        h: 0x5be0cd19,
-    }
-}
+pub const INITIAL: State = State {
+    a: 0x6a09e667,
+    b: 0xbb67ae85,
+    c: 0x3c6ef372,
+    d: 0xa54ff53a,
+    e: 0x510e527f,
+    f: 0x9b05688c,
+    g: 0x1f83d9ab,
+    h: 0x5be0cd19,
+};

@@ -1,33 +1,30 @@
 // The operations on words and the six functions of FIPS 180-4 (sections 3.2 and 4.1.2).
 ghost use Rattle.std.specs.Prelude.{◌≡◌, ◌<◌};
-ghost use Rattle.sha256.specs.Fips180.{◌⊞◌, ROTR, Ch, Maj, Σ0, Σ1, σ0, σ1};
+ghost use Rattle.sha256.specs.Fips180.{ROTR, Ch, Maj, Σ0, Σ1, σ0, σ1};
 
-// The standard's sum of words, modulo 2^32.
-pub fn add(x: u32, y: u32) -> u32
-    ensures { result ≡ x ⊞ y }
-{
-    std::num::wrapping_add_u32(x, y)
-}
-
+#[tactic(auto, using(crate::proofs::WordLaws::rotated))]
 pub fn rotr(x: u32, n: u32) -> u32
     requires { (0 < n) × (n < 32) }
     ensures { result ≡ ROTR n x }
 {
-    (x >> n) | (x << (32 - n))
+    x.rotate_right(n)
 }
 
+#[tactic(auto, unfolding(crate::specs::Fips180::Ch))]
 pub fn ch(x: u32, y: u32, z: u32) -> u32
     ensures { result ≡ Ch x y z }
 {
     (x & y) ^ (!x & z)
 }
 
+#[tactic(auto, unfolding(crate::specs::Fips180::Maj))]
 pub fn maj(x: u32, y: u32, z: u32) -> u32
     ensures { result ≡ Maj x y z }
 {
     (x & y) ^ (x & z) ^ (y & z)
 }
 
+// These four differ in their numbers alone; they stay four, under the standard's names.
 pub fn big_sigma0(x: u32) -> u32
     ensures { result ≡ Σ0 x }
 {

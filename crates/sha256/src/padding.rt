@@ -2,8 +2,6 @@
 ghost use Rattle.std.specs.Prelude.{◌≡◌, ◌+◌, ◌*◌, ◌/◌, ◌^◌, ◌<◌, ◌≤◌, ◌++◌, length, take};
 ghost use Rattle.sha256.specs.Fips180.{padding, zeros};
 
-use crate::words::put_word;
-
 // How many blocks n octets and their padding take: the octet 0x80 and the length need nine more.
 #[tactic(auto, unfolding(crate::specs::Fips180::zeros))]
 pub fn last_count(n: usize) -> usize
@@ -16,13 +14,12 @@ pub fn last_count(n: usize) -> usize
 // The last n blocks of a message of len octets, of which rest is what follows its whole blocks.
 pub fn last_blocks(rest: &[u8], len: usize, n: usize) -> [u8; 128]
     requires { (len < 2 ^ 61) × (n ≤ 2) × (64 * n ≡ length rest.now + 9 + zeros (8 * len) / 8) }
-    ensures { (length result ≡ 128) × (take (64 * n) result ≡ rest.now ++ padding len) }
+    ensures { take (64 * n) result ≡ rest.now ++ padding len }
 {
-    let mut p: [u8; 128] = [0; 128];
-    let bits = 8 * (len as u64);
-    let end = octets::put(&mut p, 0, rest);
-    p[end] = 0x80;
-    let at = put_word(&mut p, 64 * n - 8, (bits / 0x100000000) as u32);
-    put_word(&mut p, at, (bits % 0x100000000) as u32);
+    let mut p = [0; 128];
+    p[..rest.len()].copy_from_slice(rest);
+    p[rest.len()] = 0x80;
+    let bits = 8 * len as u64;
+    p[64 * n - 8..64 * n].copy_from_slice(&bits.to_be_bytes());
     p
 }

@@ -1,4 +1,5 @@
-// Numbers and octets as text, written into a lent buffer at a running offset.
+// Numbers and octets as text, written into a lent buffer at a running offset. Not by `Display`: by its contract a `fmt` may always fail,
+// and these can't.
 #![tactic(auto)]
 
 ghost use Rattle.std.specs.Prelude.{◌≡◌, ◌+◌, ◌*◌, ◌≤◌, ◌<◌, length};
@@ -33,12 +34,9 @@ pub fn put_hex(out: &mut [u8], at: usize, src: &[u8]) -> usize
     requires { at + 2 * length src.now ≤ length out.old }
     ensures { Wrote out.old at (hex src.now) out.new result }
 {
-    let mut i = 0;
     let mut p = at;
-    while i < src.len() {
-        let d = [digit_of(src[i] / 16), digit_of(src[i] % 16)];
-        p = octets::put(out, p, &d);
-        i += 1;
+    for octet in src {
+        p = octets::put(out, p, &[digit_of(octet / 16), digit_of(octet % 16)]);
     }
     p
 }

@@ -7,7 +7,7 @@ use native.Mathlib.Nat.{le_refl}
 use native.Mathlib.Omega.{arith}
 use lib.ListN.{length, take, drop, get_or}
 use lib.Seq.{take-take}
-use Rattle.answer.specs.declared.Answer.TheVariants.{Done, Refused}
+use Rattle.answer.specs.Answer.{Done, Refused}
 use Rattle.answer.specs.Refusals.{not_ascending}
 use Rattle.octets.specs.Order.{Octets, order, is_less}
 use Rattle.attester.specs.Entry.{key, entries}

@@ -6,18 +6,16 @@ use Prim.Native.Nat.{ℕ}
 use native.Mathlib.Omega.{arith}
 use borrow.Author.Tests.{eq-eqb, ne_eqb}
 use lib.ListN.{length}
-use Rattle.answer.specs.declared.Answer.{Answer}
-use Rattle.answer.specs.declared.Answer.TheVariants.{Done, Refused}
-use Rattle.answer.specs.Answer.{written}
+use Rattle.answer.specs.Answer.{Answer, Done, Refused, written}
 use Rattle.answer.specs.Refusals.{size, unknown_profile}
 use Rattle.octets.specs.Order.{Octets}
-use Rattle.octets.specs.Put.{Wrote}
-use Rattle.octets.proofs.PutLaws.{put_front}
+use Rattle.answer.proofs.WrittenLaws.{written_whole}
 use Rattle.profile.specs.Profile.{known, label, in_profile}
-use Rattle.profile.proofs.ProfileLaws.{in_known, in_unknown}
+use Rattle.profile.proofs.ProfileLaws.{in_known, in_unknown, label_length}
 use Rattle.attester.specs.Admission.{Admission, admitted, refused, admit}
 use Rattle.attester.specs.Label.{digest}
 use Rattle.attester.proofs.AdmissionLaws.{admit_admitted}
+use Rattle.attester.proofs.LabelLaws.{digest_length}
 use Rattle.tree.specs.Admitted.{answer_of, entries_of}
 use Rattle.tree.specs.Digest.{digest_answer, digest_octets, Digested}
 use Rattle.tree.specs.Edition.{width, most}
@@ -54,11 +52,10 @@ module _ (profile : ℕ) (k : known profile ≡ true) (keys out : Octets) where
         go (admitted es) h d = ap (digest (label profile)) (sym (admit_admitted width most keys es h).parts)
         go (refused m p) h d = let z : ◌≡◌ {A = ℕ} 0 1 = cc in absurd (omega arith)
 
-    pub digested_done : {n : ℕ} {d out' : Octets} {end : ℕ} → r ≡ Done n → d ≡ label_of (label profile) width keys → Wrote out 0 d out' end
-        → Digested profile keys out (Done n) out'
-    unfolding written
+    pub digested_done : {n : ℕ} {d out' : Octets} → r ≡ Done n → d ≡ label_of (label profile) width keys → out' ≡ d → Digested profile keys out (Done n) out'
+    unfolding digest_octets
     digested_done {n} {d} e l w =
-        record {
-          answered = sym e ∙ answered;
-          left = w.left ∙ put_front out d ∙ rw (l ∙ label_admitted n e);
-        }
+        let o : d ≡ digest_octets (label profile) width most keys = l ∙ label_admitted n e in
+        let fits : length (digest_octets (label profile) width most keys) ≡ length out =
+        digest_length (label profile) (label_length profile) (entries_of (admit width most keys)) ∙ sym room in
+        record { answered = sym e ∙ answered; left = w ∙ o ∙ sym (written_whole n _ out fits) }

@@ -1,6 +1,6 @@
 -- How a record is written and a label put together: each subtree's keys are a part of the list's octets, and there is a
 -- child exactly where that part has keys.
-use mathlib.Core.Path.{◌≡◌, refl, sym, ◌∙◌}
+use mathlib.Core.Path.{◌≡◌, refl, sym, ap, ◌∙◌}
 use mathlib.Core.Bool.{Bool, true, false}
 use mathlib.Core.List.{[], ◌∷◌, ◌++◌, append_assoc}
 use Prim.Native.Nat.{ℕ, zero, suc, ◌+◌, ◌-◌, ◌*◌, ◌/◌, ◌≤◌, ◌<◌}
@@ -18,6 +18,14 @@ use Rattle.attester.specs.Tree.{tree}
 use Rattle.attester.specs.Label.{label, digest}
 use Rattle.attester.proofs.EntryLaws.{entries_front}
 use Rattle.attester.proofs.LabelLaws.{label_none, label_bit, digest_none, digest_of_entries}
+use Rattle.std.specs.Prelude.{Result}
+use Rattle.std.specs.Result.{result_unwrap_or}
+use Rattle.answer.specs.declared.Refusal.{Refusal}
+use Rattle.profile.specs.declared.Profile.{Profile}
+use Rattle.profile.specs.declared.Profile.TheVariants.{Full}
+use Rattle.profile.specs.Profile as profiles
+use Rattle.profile.specs.Named.{number_of_profile, Names}
+use Rattle.profile.proofs.ProfileLaws.{labels_by_number}
 use Rattle.tree.specs.Edition.{width}
 use Rattle.tree.specs.Labels.{one_if, flag_of, label_of}
 
@@ -78,3 +86,8 @@ module _ (H : Octets → Octets) where
       let d = bit_of_entries (n - suc (n / 2)) (drop (at + 20) keys) in
       eh ∙ rw (erec, ef, el, er, a, b, key_width, after, ← c, ← d)
       (sym (digest_of_entries H width n keys some ∙ rw (start, next)))
+
+-- the label by a profile's number, whether there is one of that number or not
+pub label_by_number : (n : ℕ) (keys : Octets) (r : Result Profile Refusal) → Names n r
+    → label_of (profiles.label (number_of_profile (result_unwrap_or r Full))) width keys ≡ label_of (profiles.label n) width keys
+label_by_number n keys r e = ap (λ (H : Octets → Octets). label_of H width keys) (labels_by_number n r e)

@@ -1,7 +1,6 @@
 -- What the admission of a key list answers.
 use Rattle.std.specs.Prelude.{List, [], length}
-use Rattle.answer.specs.declared.Answer.{Answer}
-use Rattle.answer.specs.declared.Answer.TheVariants.{Done, Refused}
+use Rattle.answer.specs.Answer.{Answer, Done, Refused}
 use Rattle.octets.specs.Order.{Octets}
 use Rattle.attester.specs.Admission.{Admission, admitted, refused}
 

@@ -1,8 +1,6 @@
 -- The promise of `digest` (01, "Numbers a caller can meet"; 02, vi).
 use Rattle.std.specs.Prelude.{◌≡◌, cond, ℕ, eqb, length}
-use Rattle.answer.specs.declared.Answer.{Answer}
-use Rattle.answer.specs.declared.Answer.TheVariants.{Refused}
-use Rattle.answer.specs.Answer.{written}
+use Rattle.answer.specs.Answer.{Answer, Refused, written}
 use Rattle.answer.specs.Refusals.{size}
 use Rattle.octets.specs.Order.{Octets}
 use Rattle.profile.specs.Profile.{label, in_profile}

@@ -1,21 +1,11 @@
--- A refusal is the judgement's and nothing is written; an accepted text's keys are written to the front.
-use mathlib.Core.Path.{sym, ◌∙◌}
-use lib.ListN.{length}
-use Rattle.answer.specs.Answer.{written}
-use Rattle.codes.specs.Text.{reading}
-use Rattle.codes.specs.Read.{keys}
-use Rattle.codes.proofs.WriteLaws.{written_done}
+-- What the text says is what its count says of the room, and that is what its code lines say.
+use Rattle.std.proofs.Common.{length, ◌∙◌}
+use Rattle.codes.proofs.WriteLaws.{read_done}
 use Rattle.codes.proofs.read_list.Goals as goal
 
-pub returns-in_default : goal.returns-in_default
-unfolding written
-returns-in_default c = record { answered = c.judge-a.ensures; left = rw c.in_default.is }
-
-pub write_keys-requires : goal.write_keys-requires
-write_keys-requires c = sym c.judge-a.ensures ∙ c.in-Done.is
-
-pub shape_of-out : goal.shape_of-out
-shape_of-out c = c.write_keys.auto.out
-
 pub returns : goal.returns
-returns c = let a = c.args in record { answered = sym c.in-Done.is ∙ c.judge-a.ensures; left = c.write_keys.ensures ∙ written_done _ (keys (reading (length a.out.now) a.text.now)) a.out.now }
+returns c =
+    let a = c.args in
+    let lines = c.in_ok-n.lines.now in
+    let e = c.in_ok-n.ensures (length a.out.now) ∙ (c.in_ok-check_count.ensures lines).2 in
+    read_done a.text.now a.out.now lines c.write_keys.new.out c.in_ok-n.n e c.in_ok-check_codes.ensures c.write_keys.ensures

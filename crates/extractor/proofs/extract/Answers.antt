@@ -1,66 +1,89 @@
 -- Each end of the code is an end of the promise. Where the verdicts differ, demand 3 says that the walk finds a level in both paths.
-use mathlib.Core.Path.{sym, ◌∙◌}
+use mathlib.Core.Path.{◌≡◌, sym, ◌∙◌}
+use Rattle.std.proofs.Common.{rules}
 use native.Mathlib.Omega.{arith}
-use Rattle.extractor.proofs.SizedLaws.{buffers}
-use Rattle.extractor.proofs.PassedLaws.{level_few}
-use Rattle.extractor.proofs.ExtractedLaws.{extracted_unknown, extracted_unsized, extracted_first, extracted_second, extracted_same, contradicting, extracted_done}
+use Rattle.answer.proofs.HandedLaws.{handed_on}
+use Rattle.extractor.proofs.ExtractedLaws.{buffers, extracted_unknown, extracted_unsized, extracted_first, extracted_second, extracted_same, contradicting, extracted_done}
 use Rattle.extractor.proofs.extract.Goals as goal
 
-pub returns-then-not-known : goal.returns-then-not-known
-returns-then-not-known c =
+pub returns-in_err-named : goal.returns-in_err-named
+returns-in_err-named c =
     let a = c.args in
-    extracted_unknown a.profile a.key.now a.digest.now a.first.now a.second.now a.out1.now a.out2.now
-    (sym c.known.ensures ∙ c.if-not-known.true)
+    rw (handed_on c.from_residual.result c.from_residual.ensures.1, c.in_err-named.ensures.1)
+    (extracted_unknown a.profile a.key.now a.digest.now a.first.now a.second.now a.out1.now a.out2.now c.in_err-named.ensures.0)
 
 pub returns-then-not-sized : goal.returns-then-not-sized
 returns-then-not-sized c =
-    let k = sym c.known.ensures ∙ c.if-not-known.false in
-    extracted_unsized c.args.profile k c.args.key.now c.args.digest.now c.args.first.now c.args.second.now c.args.out1.now c.args.out2.now c.sized.ensures (c.if-not-sized.true)
+    let a = c.args in
+    rw c.at.ensures (extracted_unsized a.profile c.in_ok-named.named c.in_ok-named.ensures a.key.now a.digest.now a.first.now a.second.now a.out1.now a.out2.now
+    c.sized.ensures c.if-not-sized.true)
 
-pub returns-in_default : goal.returns-in_default
-returns-in_default c =
-    let k = sym c.known.ensures ∙ c.if-not-known.false in
-    extracted_first c.args.profile k c.args.key.now c.args.digest.now c.args.first.now c.args.second.now c.args.out1.now c.args.out2.now c.sized.ensures (c.if-not-sized.false) c.verify.ensures c.told-a.ensures c.in_default.is
+pub returns-in_err-p : goal.returns-in_err-p
+returns-in_err-p c =
+    let a = c.args in
+    let sizes = sym c.sized.ensures ∙ c.if-not-sized.false in
+    rw (handed_on c.from_residual-in_err-p.result c.from_residual-in_err-p.ensures.1)
+    (extracted_first a.profile c.in_ok-named.named c.in_ok-named.ensures a.key.now a.digest.now a.first.now a.second.now a.out1.now a.out2.now sizes
+    c.verify.ensures c.in_err-p.field-0.0 c.in_err-p.ensures)
 
-pub returns-in_default-b : goal.returns-in_default-b
-returns-in_default-b c =
-    let k = sym c.known.ensures ∙ c.if-not-known.false in
-    extracted_second c.args.profile k c.args.key.now c.args.digest.now c.args.first.now c.args.second.now c.args.out1.now c.args.out2.now c.sized.ensures (c.if-not-sized.false) c.verify.ensures c.told-a.ensures c.in-Done.is c.verify-2.ensures c.told-b.ensures c.in_default-b.is
+pub returns-in_err-q : goal.returns-in_err-q
+returns-in_err-q c =
+    let a = c.args in
+    let sizes = sym c.sized.ensures ∙ c.if-not-sized.false in
+    rw (handed_on c.from_residual-in_err-q.result c.from_residual-in_err-q.ensures.1)
+    (extracted_second a.profile c.in_ok-named.named c.in_ok-named.ensures a.key.now a.digest.now a.first.now a.second.now a.out1.now a.out2.now sizes
+    c.verify.ensures c.in_ok-p.p c.in_ok-p.ensures c.verify-2.ensures c.in_err-q.field-0.0 c.in_err-q.ensures)
 
-pub returns-then-p-q : goal.returns-then-p-q
-returns-then-p-q c =
-    let k = sym c.known.ensures ∙ c.if-not-known.false in
-    extracted_same c.args.profile k c.args.key.now c.args.digest.now c.args.first.now c.args.second.now c.args.out1.now c.args.out2.now c.sized.ensures (c.if-not-sized.false) c.verify.ensures c.told-a.ensures c.in-Done.is c.verify-2.ensures c.told-b.ensures c.in-Done-b.is (omega arith)
+pub returns-then-eq : goal.returns-then-eq
+returns-then-eq c =
+    let a = c.args in
+    let e : c.in_ok-p.p ≡ c.in_ok-q.q = search rules in
+    rw c.at-then-eq.ensures
+    (extracted_same a.profile c.in_ok-named.named c.in_ok-named.ensures a.key.now a.digest.now a.first.now a.second.now a.out1.now a.out2.now
+    (sym c.sized.ensures ∙ c.if-not-sized.false) c.verify.ensures c.in_ok-p.p c.in_ok-p.ensures c.verify-2.ensures c.in_ok-q.q c.in_ok-q.ensures e)
+
+pub invariant_of-first : goal.invariant_of-first
+invariant_of-first c =
+    let a = c.args in
+    let differ : c.in_ok-p.p ≡ c.in_ok-q.q → ⊥ = search rules in
+    record {
+      formed = (contradicting a.profile c.in_ok-named.named c.in_ok-named.ensures a.key.now a.digest.now a.first.now a.second.now a.out1.now a.out2.now
+          (sym c.sized.ensures ∙ c.if-not-sized.false) c.verify.ensures c.in_ok-p.p c.in_ok-p.ensures c.verify-2.ensures c.in_ok-q.q c.in_ok-q.ensures differ).first_formed;
+    }
+
+pub invariant_of-second : goal.invariant_of-second
+invariant_of-second c =
+    let a = c.args in
+    let differ : c.in_ok-p.p ≡ c.in_ok-q.q → ⊥ = search rules in
+    record {
+      formed = (contradicting a.profile c.in_ok-named.named c.in_ok-named.ensures a.key.now a.digest.now a.first.now a.second.now a.out1.now a.out2.now
+          (sym c.sized.ensures ∙ c.if-not-sized.false) c.verify.ensures c.in_ok-p.p c.in_ok-p.ensures c.verify-2.ensures c.in_ok-q.q c.in_ok-q.ensures differ).second_formed;
+    }
 
 pub passed-i-requires : goal.passed-i-requires
 passed-i-requires c =
-    let k = sym c.known.ensures ∙ c.if-not-known.false in
-    contradicting c.args.profile k c.args.key.now c.args.digest.now c.args.first.now c.args.second.now c.args.out1.now c.args.out2.now c.sized.ensures (c.if-not-sized.false) c.verify.ensures c.told-a.ensures c.in-Done.is c.verify-2.ensures c.told-b.ensures c.in-Done-b.is (λ e. omega arith)
+    let a = c.args in
+    let differ : c.in_ok-p.p ≡ c.in_ok-q.q → ⊥ = search rules in
+    (contradicting a.profile c.in_ok-named.named c.in_ok-named.ensures a.key.now a.digest.now a.first.now a.second.now a.out1.now a.out2.now
+    (sym c.sized.ensures ∙ c.if-not-sized.false) c.verify.ensures c.in_ok-p.p c.in_ok-p.ensures c.verify-2.ensures c.in_ok-q.q c.in_ok-q.ensures differ).walked
 
-pub record-requires : goal.record-requires
-record-requires c =
-    let k = sym c.known.ensures ∙ c.if-not-known.false in
-    ((contradicting c.args.profile k c.args.key.now c.args.digest.now c.args.first.now c.args.second.now c.args.out1.now c.args.out2.now c.sized.ensures (c.if-not-sized.false) c.verify.ensures c.told-a.ensures c.in-Done.is c.verify-2.ensures c.told-b.ensures c.in-Done-b.is (λ e. omega arith)).0, c.passed-i.ensures.1)
+pub copy_from_slice-requires : goal.copy_from_slice-requires
+copy_from_slice-requires c =
+    let a = c.args in
+    omega (arith, buffers a.key.now a.digest.now a.out1.now a.out2.now (sym c.sized.ensures ∙ c.if-not-sized.false))
 
-pub put-requires : goal.put-requires
-put-requires c =
-    omega (arith, buffers c.args.key.now c.args.digest.now c.args.out1.now c.args.out2.now (sym c.sized.ensures ∙ c.if-not-sized.false))
-
-pub record-requires-2 : goal.record-requires-2
-record-requires-2 c =
-    let k = sym c.known.ensures ∙ c.if-not-known.false in
-    ((contradicting c.args.profile k c.args.key.now c.args.digest.now c.args.first.now c.args.second.now c.args.out1.now c.args.out2.now c.sized.ensures (c.if-not-sized.false) c.verify.ensures c.told-a.ensures c.in-Done.is c.verify-2.ensures c.told-b.ensures c.in-Done-b.is (λ e. omega arith)).1, c.passed-i.ensures.2)
-
-pub put-requires-2 : goal.put-requires-2
-put-requires-2 c =
-    omega (arith, buffers c.args.key.now c.args.digest.now c.args.out1.now c.args.out2.now (sym c.sized.ensures ∙ c.if-not-sized.false))
-
-pub overflow_cast-result : goal.overflow_cast-result
-overflow_cast-result c =
-    let k = sym c.known.ensures ∙ c.if-not-known.false in
-    omega (arith, c.passed-i.ensures.1, level_few c.args.first.now (contradicting c.args.profile k c.args.key.now c.args.digest.now c.args.first.now c.args.second.now c.args.out1.now c.args.out2.now c.sized.ensures (c.if-not-sized.false) c.verify.ensures c.told-a.ensures c.in-Done.is c.verify-2.ensures c.told-b.ensures c.in-Done-b.is (λ e. omega arith)).0)
+pub copy_from_slice-requires-2 : goal.copy_from_slice-requires-2
+copy_from_slice-requires-2 c =
+    let a = c.args in
+    omega (arith, buffers a.key.now a.digest.now a.out1.now a.out2.now (sym c.sized.ensures ∙ c.if-not-sized.false))
 
 pub returns : goal.returns
 returns c =
-    let k = sym c.known.ensures ∙ c.if-not-known.false in
-    extracted_done c.args.profile k c.args.key.now c.args.digest.now c.args.first.now c.args.second.now c.args.out1.now c.args.out2.now c.sized.ensures (c.if-not-sized.false) c.verify.ensures c.told-a.ensures c.in-Done.is c.verify-2.ensures c.told-b.ensures c.in-Done-b.is (λ e. omega arith) c.passed-i.ensures.0 c.«record».ensures c.record-2.ensures c.put.ensures c.put-2.ensures
+    let a = c.args in
+    let differ : c.in_ok-p.p ≡ c.in_ok-q.q → ⊥ = search rules in
+    let sizes = sym c.sized.ensures ∙ c.if-not-sized.false in
+    let room = buffers a.key.now a.digest.now a.out1.now a.out2.now sizes in
+    extracted_done a.profile c.in_ok-named.named c.in_ok-named.ensures a.key.now a.digest.now a.first.now a.second.now a.out1.now a.out2.now sizes
+    c.verify.ensures c.in_ok-p.p c.in_ok-p.ensures c.verify-2.ensures c.in_ok-q.q c.in_ok-q.ensures differ
+    c.passed-i.ensures.is c.«record».ensures c.record-2.ensures c.copy_from_slice.ensures.after c.copy_from_slice-2.ensures.after
+    (omega (arith, room)) (omega (arith, room))

@@ -1,16 +1,18 @@
 -- What a read put behind the octets before it came behind them in the input too.
-use Rattle.std.proofs.Common.{◌≡◌, ℕ, ◌+◌, ◌-◌, List, ◌++◌, rules, arith, take, drop, slice_range, sym, ap, ◌∙◌, subst}
+use Rattle.std.proofs.Common.{◌≡◌, ℕ, ◌+◌, ◌≤◌, List, ◌++◌, rules, length, take, length-take-le, sym, ap, ◌∙◌, subst}
 use Rattle.std.specs.Io.KnownBytes.{Consumes}
 use Rattle.std.proofs.KnownBytes.{Consumes-trans}
-use Rattle.std.proofs.Math.Seq.{take-add}
+use Rattle.std.proofs.lemmas.List.{take-append-le}
+use Rattle.std.proofs.Math.Seq.{take-append-add}
+use borrow.Rule.Slice.PartMut.{put_mid, post_of}
 use Rattle.input.proofs.read_text.Goals as goal
 
-grown : (a k : ℕ) (old new : List ℕ) → take a new ≡ take a old → take a old ++ slice_range new a (a + k) ≡ take (a + k) new
-grown a k old new front =
-    let same : (a + k) - a ≡ k = omega arith in
-    ap (λ l. l ++ slice_range new a (a + k)) (sym front) ∙ ap (λ n. take a new ++ take n (drop a new)) same ∙ sym (take-add a k new)
+grown : (a k n : ℕ) (xs ys : List ℕ) → a ≤ length xs → n ≤ length ys → take (a + n) (put_mid a k xs ys) ≡ take a xs ++ take n ys
+grown a k n xs ys h g =
+    let more = rw (length-take-le a xs h) at (take-append-add (take a xs) (ys ++ post_of a k xs) n) in
+    more ∙ ap (λ l. take a xs ++ l) (take-append-le n ys _ g)
 
 pub loop-n-preserved : goal.loop-n-preserved
 loop-n-preserved g c =
-    let taken = Consumes-trans _ _ _ _ _ c.loop-n.invariant.2 c.in-Octets.ensures.gave in
-    (search rules, search rules, subst (Consumes _ _) (grown _ _ _ _ c.read_at.ensures.front) taken)
+    let taken = Consumes-trans _ _ _ _ _ c.loop-n.invariant.2 c.in_ok-more.ensures.bytes.0 in
+    (search rules, search rules, subst (Consumes _ _) (sym (grown _ _ _ _ _ c.loop-n.invariant.0 c.in_ok-more.ensures.bound.0)) taken)

@@ -9,12 +9,12 @@ use Rattle.attestation.proofs.form.optional_end.Goals as goal
 pub returns-then-att-at : goal.returns-then-att-at
 returns-then-att-at c =
     let a = c.args in
-    answer_short a.att.now (optional_end a.att.now a.at (omega arith))
+    rw c.at.ensures (answer_short a.att.now (optional_end a.att.now a.at (omega arith)))
 
 pub returns-then-att-at-gt1 : goal.returns-then-att-at-gt1
 returns-then-att-at-gt1 c =
     let a = c.args in
-    answer_wrong a.att.now a.at (omega arith) (optional_wrong a.att.now a.at (omega arith) (omega arith))
+    rw c.at-then-att-at-gt1.ensures (answer_wrong a.att.now a.at (omega arith) (optional_wrong a.att.now a.at (omega arith) (omega arith)))
 
 pub returns-then-att-at-eq0 : goal.returns-then-att-at-eq0
 returns-then-att-at-eq0 c =
@@ -24,7 +24,7 @@ returns-then-att-at-eq0 c =
 pub returns-then-att-at-2 : goal.returns-then-att-at-2
 returns-then-att-at-2 c =
     let a = c.args in
-    answer_short a.att.now (optional_cut a.att.now a.at (omega arith) (omega arith) (omega arith))
+    rw c.at-then-att-at-2.ensures (answer_short a.att.now (optional_cut a.att.now a.at (omega arith) (omega arith) (omega arith)))
 
 pub returns : goal.returns
 returns c =

@@ -10,15 +10,12 @@ use Rattle.attestation.proofs.form.siblings_end.Goals as goal
 pub returns-then-att-at : goal.returns-then-att-at
 returns-then-att-at c =
     let a = c.args in
-    answer_short a.att.now (siblings_end a.att.now a.at a.m (omega arith))
+    rw c.at.ensures (answer_short a.att.now (siblings_end a.att.now a.at a.m (omega arith)))
 
-pub overflow_cast-att : goal.overflow_cast-att
-overflow_cast-att c = omega (arith, c.shared_slice_known-2-1.given c.args.at)
-
-pub returns-then-att-at-2 : goal.returns-then-att-at-2
-returns-then-att-at-2 c =
+pub returns-then-from-m : goal.returns-then-from-m
+returns-then-from-m c =
     let a = c.args in
-    answer_wrong a.att.now a.at (omega arith) (siblings_wrong a.att.now a.at a.m (omega arith) (λ e. omega arith))
+    rw c.at-then-from-m.ensures (answer_wrong a.att.now a.at (omega arith) (siblings_wrong a.att.now a.at a.m (omega arith) (λ e. omega arith)))
 
 pub returns : goal.returns
 returns c =

@@ -3,4 +3,4 @@ use lib.ListN.{length}
 use Rattle.attestation.proofs.issue.+levels.Given as goal
 
 abbrev pub decreases-levels : goal.decreases-levels
-decreases-levels l = length l.keys.now
+decreases-levels l = length l.search.keys.now

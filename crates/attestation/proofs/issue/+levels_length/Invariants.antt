@@ -3,4 +3,4 @@ use lib.ListN.{length}
 use Rattle.attestation.proofs.issue.+levels_length.Given as goal
 
 abbrev pub decreases-levels_length : goal.decreases-levels_length
-decreases-levels_length l = length l.keys.now
+decreases-levels_length l = length l.search.keys.now

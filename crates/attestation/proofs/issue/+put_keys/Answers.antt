@@ -1,48 +1,30 @@
--- The keys of the path where the search goes on, and after them the middle key. The number of octets falls.
+-- The keys of the path where the search goes on, and after them the middle key.
 use native.Mathlib.Omega.{arith}
-use mathlib.Core.Path.{sym, ap, ◌∙◌}
-use Rattle.attestation.proofs.JoinLaws.{wrote_same, room_first, room_second, wrote_both}
-use Rattle.attestation.proofs.IssueLaws.{bare, on_keyed, keys_here, keys_on}
-use lib.ListN.{length}
+use mathlib.Core.Path.{refl}
+use Rattle.octets.proofs.WriterLaws.{writes_none, room_first, room_second, writes_both}
+use Rattle.attestation.proofs.IssueLaws.{bare, shorter, keys_here, keys_on}
+use Rattle.attestation.proofs.issue.+put_keys.Goals.{in-Some, in_default}
 use Rattle.attestation.proofs.issue.+put_keys.Goals as goal
 
-pub onward-on-requires : goal.onward-on-requires
-onward-on-requires t c = c.requires.0
-
-pub middle-requires : goal.middle-requires
-middle-requires t c = c.requires.0
+pub put_keys-requires : goal.put_keys-requires
+put_keys-requires t c =
+    let a = c.args in (
+      omega (arith, shorter a.search c.in-Some.on c.in-Some.ensures),
+      λ H. room_first (keys_on a.search H c.in-Some.on c.in-Some.ensures refl) a.w.now (c.requires H),
+    )
 
 pub put-requires : goal.put-requires
 put-requires t c =
-    let on = c.onward-on in
-    omega (arith, c.requires.1 bare, ap length (keys_here c.args.x.now c.args.keys.now c.requires.0 on.result.now on.ensures bare c.if-on-lt20.true), ap length c.middle.ensures)
-
-pub shape_of-out-then-on-lt20 : goal.shape_of-out-then-on-lt20
-shape_of-out-then-on-lt20 t c = c.put.auto.out
-
-pub returns-then-on-lt20 : goal.returns-then-on-lt20
-returns-then-on-lt20 t c =
-    let on = c.onward-on in
-    λ H. wrote_same (keys_here c.args.x.now c.args.keys.now c.requires.0 on.result.now on.ensures H c.if-on-lt20.true ∙ sym c.middle.ensures) c.put.ensures
-
-pub put_keys-p-requires : goal.put_keys-p-requires
-put_keys-p-requires t c =
-    let on = c.onward-on in
-    let k = on_keyed c.args.x.now c.args.keys.now c.requires.0 on.result.now on.ensures c.if-on-lt20.false in
-    (omega (arith, k.1), (k.0, λ H. room_first c.args.at (keys_on c.args.x.now c.args.keys.now c.requires.0 on.result.now on.ensures H c.if-on-lt20.false) (c.requires.1 H)))
-
-pub middle-requires-2 : goal.middle-requires-2
-middle-requires-2 t c = c.requires.0
-
-pub put-requires-2 : goal.put-requires-2
-put-requires-2 t c =
-    let on = c.onward-on in
-    room_second c.args.at (keys_on c.args.x.now c.args.keys.now c.requires.0 on.result.now on.ensures bare c.if-on-lt20.false) c.middle-2.ensures (c.put_keys-p.ensures bare) (c.requires.1 bare)
-
-pub shape_of-out : goal.shape_of-out
-shape_of-out t c = c.put-2.auto.out ∙ c.put_keys-p.auto.out
+    let a = c.args in
+    elim c.match-onward.branch [
+      | in-Some b ↦ (rw b.w-is (room_second (keys_on a.search bare b.in-Some.on b.in-Some.ensures c.middle.ensures) a.w.now (c.requires bare) (b.put_keys.ensures bare)))
+      | in_default b ↦ (rw b.w-is (room_second (keys_here a.search bare b.in_default.ensures c.middle.ensures) a.w.now (c.requires bare) (writes_none a.w.now)))
+    ]
 
 pub returns : goal.returns
-returns t c =
-    let on = c.onward-on in
-    λ H. wrote_both c.args.at (keys_on c.args.x.now c.args.keys.now c.requires.0 on.result.now on.ensures H c.if-on-lt20.false) c.middle-2.ensures (c.put_keys-p.ensures H) c.put-2.ensures (c.requires.1 H)
+returns t c H =
+    let a = c.args in
+    elim c.match-onward.branch [
+      | in-Some b ↦ (writes_both (keys_on a.search H b.in-Some.on b.in-Some.ensures c.middle.ensures) a.w.now (c.requires H) (b.put_keys.ensures H) (rw (← b.w-is) c.put.ensures))
+      | in_default b ↦ (writes_both (keys_here a.search H b.in_default.ensures c.middle.ensures) a.w.now (c.requires H) (writes_none a.w.now) (rw (← b.w-is) c.put.ensures))
+    ]

@@ -3,4 +3,4 @@ use lib.ListN.{length}
 use Rattle.attestation.proofs.issue.+put_siblings.Given as goal
 
 abbrev pub decreases-put_siblings : goal.decreases-put_siblings
-decreases-put_siblings l = length l.keys.now
+decreases-put_siblings l = length l.search.keys.now

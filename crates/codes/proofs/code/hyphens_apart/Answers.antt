@@ -1,17 +1,10 @@
--- From the octet before i on, hyphens are apart exactly if they are in the whole string.
-use mathlib.Core.Path.{refl, sym, ◌∙◌}
-use native.Mathlib.Omega.{arith}
-use Rattle.codes.proofs.CodeLaws.{apart_stop, apart_more, apart_end}
+-- No two neighbours are hyphens exactly if hyphens are apart.
+use Rattle.std.proofs.Common.{rules, ◌∙◌, ap, tests, not}
+use Rattle.codes.specs.Code.{hyphen}
+use Rattle.std.proofs.lemmas.Iterator.Search.{any_from_yields_List}
+use Rattle.codes.proofs.CodeLaws.{double, YieldsList-from_pairs, apart_is}
 use Rattle.codes.proofs.code.hyphens_apart.Goals as goal
 
-pub loop-i-init : goal.loop-i-init
-loop-i-init c = (omega arith, omega arith, refl)
-
-pub returns-then-both_hyphens : goal.returns-then-both_hyphens
-returns-then-both_hyphens c = apart_stop c.args.s.now c.loop-i.i (omega arith) c.loop-i.invariant.2 (omega arith) (sym c.both_hyphens.ensures ∙ c.if-both_hyphens.true)
-
-pub loop-i-preserved : goal.loop-i-preserved
-loop-i-preserved c = (omega arith, omega arith, apart_more c.args.s.now c.loop-i.i (omega arith) c.loop-i.invariant.2 (omega arith) (sym c.both_hyphens.ensures ∙ c.if-both_hyphens.false))
-
 pub returns : goal.returns
-returns c = apart_end c.args.s.now c.loop-i.i (omega arith) c.loop-i.invariant.2 (omega arith)
+unfolding double hyphen
+returns c = ap not (any_from_yields_List double _ _ _ c.any.ensures.ran (YieldsList-from_pairs c.args.s.now (cc) (cc)) (λ x b q k. search (rules, tests))) ∙ apart_is c.args.s.now

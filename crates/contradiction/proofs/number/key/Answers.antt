@@ -1,7 +1,8 @@
--- Four stores into zeros are the number's key (`NumberLaws`).
+-- The number's four octets behind 16 zeros are its key.
+use mathlib.Core.Path.{◌∙◌}
 use native.Mathlib.Omega.{arith}
-use Rattle.contradiction.proofs.NumberLaws.{key_stored}
+use Rattle.contradiction.proofs.NumberLaws.{key_written}
 use Rattle.contradiction.proofs.number.key.Goals as goal
 
 pub returns : goal.returns
-returns c = key_stored c.args.n (omega arith)
+returns c = key_written c.args.n (omega arith) (c.copy_from_slice.ensures.after ∙ c.to_be_bytes.ensures)

@@ -1,43 +1,39 @@
--- The loop's invariant: the records agree on each level before i, and the test tells whether they do on level i. The measure is the
--- number of levels that the first path has left; there is one that differs, so the loop ends on it.
-use Prim.Native.Nat.{◌+◌}
+-- The loop's turn and its end.
+use mathlib.Core.Path.{sym, ◌∙◌}
 use native.Mathlib.Omega.{arith}
-use Rattle.attester.proofs.FormLaws.{form_rendered}
-use Rattle.attester.proofs.WalkLaws.{passing_start}
+use Rattle.attester.proofs.WalkLaws.{passing_start, passing_end}
 use Rattle.profile.specs.Profile.{label}
-use Rattle.tree.specs.Edition.{width}
+use Rattle.profile.specs.Named.{number_of_profile}
 use Rattle.attestation.specs.Shown.{shown}
-use Rattle.extractor.proofs.PassedLaws.{level_in, walking_next, walking_end}
+use Rattle.extractor.proofs.PassedLaws.{in_first, in_second, few, walking_next}
 use Rattle.extractor.proofs.walk.passed.Goals as goal
 
-pub agree-same-requires : goal.agree-same-requires
-agree-same-requires c = (c.requires.0, c.requires.1, level_in c.args.first.now 0 c.requires.0 (omega arith), level_in c.args.second.now 0 c.requires.1 (omega arith))
+pub loop-profile-init : goal.loop-profile-init
+loop-profile-init c =
+    let a = c.args in
+    passing_start (label (number_of_profile a.profile)) a.x.now (shown a.first.octets.now) (shown a.second.octets.now)
 
-pub loop-same-init : goal.loop-same-init
-loop-same-init c = record { passing = passing_start (label c.args.profile) c.args.x.now (shown c.args.first.now) (shown c.args.second.now); told = c.agree-same.ensures }
+pub agree-requires : goal.agree-requires
+agree-requires c = (in_first c.args.first.octets.now c.args.second.octets.now c.loop-profile.invariant c.args.first.formed, in_second c.args.first.octets.now c.args.second.octets.now c.loop-profile.invariant c.args.second.formed)
 
 pub overflow_add-i : goal.overflow_add-i
-overflow_add-i c =
-    let l = c.loop-same in
-    omega (arith, l.invariant.passing.first_level, (form_rendered width c.args.first.now (shown c.args.first.now) c.requires.0).low)
+overflow_add-i c = omega (arith, few c.args.first.octets.now c.args.second.octets.now c.loop-profile.invariant c.args.first.formed)
 
-pub agree-same-requires-in-loop-same : goal.agree-same-requires-in-loop-same
-agree-same-requires-in-loop-same c =
-    let l = c.loop-same in
-    let n = walking_next (label c.args.profile) c.args.x.now c.args.first.now c.args.second.now l.i l.same l.invariant c.requires.2 c.loop-same-test.true in
-    (c.requires.0, c.requires.1, level_in c.args.first.now (l.i + 1) c.requires.0 n.first_level, level_in c.args.second.now (l.i + 1) c.requires.1 n.second_level)
+pub loop-profile-smaller : goal.loop-profile-smaller
+loop-profile-smaller c =
+    omega (arith, (walking_next c.args.first.octets.now c.args.second.octets.now c.loop-profile.invariant c.requires (sym c.agree.ensures ∙ c.loop-profile-test.true)).first_level)
 
-pub loop-same-smaller : goal.loop-same-smaller
-loop-same-smaller c =
-    let l = c.loop-same in
-    omega (arith, (walking_next (label c.args.profile) c.args.x.now c.args.first.now c.args.second.now l.i l.same l.invariant c.requires.2 c.loop-same-test.true).first_level)
+pub loop-profile-preserved : goal.loop-profile-preserved
+loop-profile-preserved c = walking_next c.args.first.octets.now c.args.second.octets.now c.loop-profile.invariant c.requires (sym c.agree.ensures ∙ c.loop-profile-test.true)
 
-pub loop-same-preserved : goal.loop-same-preserved
-loop-same-preserved c =
-    let l = c.loop-same in
-    record { passing = walking_next (label c.args.profile) c.args.x.now c.args.first.now c.args.second.now l.i l.same l.invariant c.requires.2 c.loop-same-test.true; told = c.agree-same-in-loop-same.ensures }
+pub returns-clause-is : goal.returns-clause-is
+returns-clause-is c =
+    let a = c.args in
+    passing_end (label (number_of_profile a.profile)) a.x.now (shown a.first.octets.now) (shown a.second.octets.now) c.loop-profile.i c.loop-profile.invariant
+    (sym c.agree.ensures ∙ c.loop-profile-test.false)
 
-pub returns : goal.returns
-returns c =
-    let l = c.loop-same in
-    (walking_end (label c.args.profile) c.args.x.now c.args.first.now c.args.second.now l.i l.same l.invariant c.loop-same-test.false, level_in c.args.first.now l.i c.requires.0 l.invariant.passing.first_level, level_in c.args.second.now l.i c.requires.1 l.invariant.passing.second_level)
+pub returns-clause-in_first : goal.returns-clause-in_first
+returns-clause-in_first c = in_first c.args.first.octets.now c.args.second.octets.now c.loop-profile.invariant c.args.first.formed
+
+pub returns-clause-in_second : goal.returns-clause-in_second
+returns-clause-in_second c = in_second c.args.first.octets.now c.args.second.octets.now c.loop-profile.invariant c.args.second.formed

@@ -4,4 +4,4 @@ use Rattle.sha256.proofs.functions.big_sigma1.Goals as goal
 
 pub returns : goal.returns
 unfolding Σ1
-returns c = rw (c.rotr.ensures, c.rotr-2.ensures, c.rotr-3.ensures)
+returns c = cc

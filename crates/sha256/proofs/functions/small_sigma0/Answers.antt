@@ -4,4 +4,4 @@ use Rattle.sha256.proofs.functions.small_sigma0.Goals as goal
 
 pub returns : goal.returns
 unfolding σ0
-returns c = rw (c.rotr.ensures, c.rotr-2.ensures)
+returns c = cc

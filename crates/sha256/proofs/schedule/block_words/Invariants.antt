@@ -1,10 +1,7 @@
--- The loop fills: the first t words of w are the first t words of the schedule.
-use Rattle.std.proofs.Common.{◌≡◌, ◌-◌, ◌≤◌, length, take}
+-- The first t words of w are the first t words of the schedule.
+use Rattle.std.proofs.Common.{◌≡◌, length, take}
 use Rattle.sha256.specs.Fips180.{schedule}
 use Rattle.sha256.proofs.schedule.block_words.Given as goal
 
 abbrev pub invariant-loop-t : goal.invariant-loop-t
-invariant-loop-t l = (l.t ≤ 16) × (length l.w ≡ 64) × (take l.t l.w ≡ schedule l.b l.t)
-
-abbrev pub decreases-loop-t : goal.decreases-loop-t
-decreases-loop-t l = 16 - l.t
+invariant-loop-t l = record { full : length l.w ≡ 64; front : take l.t l.w ≡ schedule l.b l.t }

@@ -1,5 +1,4 @@
 -- The loop's invariant: of the keys from index i on, and the one before them, the first misplaced is the whole list's.
--- The measure is the number of keys that are left.
 use native.Mathlib.Omega.{arith}
 use Rattle.tree.proofs.AdmissionLaws.{rising_start, rising_end, rising_turn, rising_stop}
 use Rattle.tree.proofs.admission.ascending.Goals as goal
@@ -13,8 +12,8 @@ below-requires c = tt
 pub returns-then-not-below : goal.returns-then-not-below
 returns-then-not-below c =
     let a = c.args in
-    rising_stop a.keys.now a.n c.loop-i.i c.loop-i.invariant.2 (omega arith) (omega arith)
-    c.below.result c.below.ensures (c.if-not-below.true)
+    rw c.at.ensures (rising_stop a.keys.now a.n c.loop-i.i c.loop-i.invariant.2 (omega arith) (omega arith)
+    c.below.result c.below.ensures (c.if-not-below.true))
 
 pub loop-i-preserved : goal.loop-i-preserved
 loop-i-preserved c =

@@ -1,11 +1,7 @@
 -- The loop's invariant: of the keys from index i on, and the one before them, the first misplaced is the whole list's.
--- The measure is the number of keys that are left.
-use Prim.Native.Nat.{◌-◌, ◌≤◌}
+use Prim.Native.Nat.{◌≤◌}
 use Rattle.tree.proofs.AdmissionLaws.{Rising}
 use Rattle.tree.proofs.admission.ascending.Given as goal
 
 abbrev pub invariant-loop-i : goal.invariant-loop-i
 invariant-loop-i l = (1 ≤ l.i) × (l.i ≤ l.n) × Rising l.keys l.n l.i
-
-abbrev pub decreases-loop-i : goal.decreases-loop-i
-decreases-loop-i l = l.n - l.i

@@ -5,5 +5,4 @@ use Rattle.tree.proofs.LabelLaws.{record_written}
 use Rattle.tree.proofs.labels.node_record.Goals as goal
 
 pub returns : goal.returns
-returns c =
-    record_written refl (omega arith) c.put-at.ensures c.put-then.ensures c.put.ensures
+returns c = record_written refl (omega arith) c.put-at.ensures c.put-then.ensures c.put.ensures
