@@ -2,6 +2,8 @@
 #![tactic(auto)]
 
 ghost use Rattle.std.specs.Prelude.{◌≡◌, ℕ};
+ghost use Rattle.answer.specs.Answer.{Refused, packed, verdict_packed};
+ghost use Rattle.answer.specs.Verdict as verdict;
 ghost use Rattle.answer.specs.Said.{number_of, refusal, number_of_verdict, found_number, refusal_number, packed_by};
 
 // Why a call is refused: 01, "Numbers a caller can meet", and 02.
@@ -106,8 +108,16 @@ impl Number for Refusal {
     ghost number = { refusal_number };
 
     fn number(self) -> u64 {
-        u64::from(self.reason.number()) * 0x1_0000_0000_0000 + u64::from(self.place)
+        pack_refused(self.reason.number(), self.place)
     }
+}
+
+// A refusal of any number as one number, whether or not there is a reason of that number here.
+pub fn pack_refused(number: u16, place: u32) -> u64
+    ensures answer { result ≡ packed (Refused number place) }
+    ensures verdict { result ≡ verdict_packed (verdict.Refused number place) }
+{
+    u64::from(number) * 0x1_0000_0000_0000 + u64::from(place)
 }
 
 // An answer as one number, for callers in other languages: the value's or the refusal's.

@@ -59,7 +59,7 @@ fn above(att: Attestation<'_>, at: usize, x: &[u8], k: &[u8], label: &[u8]) -> [
 }
 
 // Step 5: the record so many levels below the root, from the foot's record and the labels, in a profile, up to there.
-pub fn record(profile: Profile, att: Attestation<'_>, x: &[u8], below: usize) -> [u8; 85]
+pub fn record_below(profile: Profile, att: Attestation<'_>, x: &[u8], below: usize) -> [u8; 85]
     requires { below < get_or att.octets.now 0 0 }
     ensures { result ≡ root_record (label (number_of_profile profile)) x.now (down below (shown att.entry.octets.now)) }
 {
@@ -88,7 +88,7 @@ pub fn judgement(
     if let Some(j) = fault(att, x) {
         return Err(Reason::KeyAbove.at(j as u32));
     }
-    let root = profile.label(&record(profile, att, x, 0));
+    let root = profile.label(&record_below(profile, att, x, 0));
     if !octets::same(&root, d) {
         return Err(Reason::OtherDigest.at(0));
     }
@@ -99,8 +99,16 @@ pub fn judgement(
     }
 }
 
-// The same in the profile of this number, of octets that have the form; where there is no such profile, by the full label.
+// Step 5 likewise, of octets that have the form, in the profile of this number; where there is no such profile, by the full label.
+pub fn record(profile: u32, att: &[u8], x: &[u8], below: usize) -> [u8; 85]
+    requires { Formed att.now × (below < get_or att.now 0 0) }
+    ensures { result ≡ root_record (label profile) x.now (down below (shown att.now)) }
+{
+    let named = Profile::try_from(profile).unwrap_or(Profile::Full);
+    record_below(named, Attestation { octets: att }, x, below)
+}
 
+// Steps 3 to 6 likewise, of such octets, in the profile of this number or else by the full label.
 pub fn judge(profile: u32, x: &[u8], d: &[u8], att: &[u8]) -> Result<Verdict, Refusal>
     requires { Formed att.now }
     ensures { said_verdict result ≡ verdict_of (verdict.judge (label profile) x.now d.now (shown att.now)) }

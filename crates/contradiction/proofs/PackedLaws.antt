@@ -4,15 +4,21 @@ use Prim.Native.Nat.{ℕ}
 use native.Mathlib.Omega.{arith}
 use Rattle.std.specs.Prelude.{Option, Some, None, Result, Ok, Err}
 use Rattle.answer.specs.declared.Refusal.{Refusal}
+use Rattle.answer.specs.Answer as answer
+use Rattle.answer.specs.Answer.{packed}
 use Rattle.answer.specs.Said.{found_number, packed_by}
 use Rattle.answer.proofs.SaidLaws.{same_refusal}
-use Rattle.contradiction.specs.Outcome.{said_found, OutcomesTell}
+use Rattle.contradiction.specs.Outcome.{Refused, said_found, OutcomesTell}
 use Rattle.contradiction.specs.Drill.{drill_number, drill_value, drill_packed}
 
 pub found_packed : (r : Result (Option ℕ) Refusal) → packed_by found_number r ≡ drill_packed (said_found r)
 found_packed (Ok (Some n)) = omega arith
 found_packed (Ok None) = omega arith
 found_packed (Err r) = omega arith
+
+-- a refusal of any number, as `pack_refused` gives it
+pub refused_packed : (m p : ℕ) → packed (answer.Refused m p) ≡ drill_packed (Refused m p)
+refused_packed m p = omega arith
 
 pub outcomes_tell : OutcomesTell
 outcomes_tell (Ok (Some n)) (Ok (Some m)) e = ap (λ q. Ok (Some q)) (ap drill_value e)

@@ -61,7 +61,7 @@ pub fn extract(
     let first = Attestation { octets: first };
     let second = Attestation { octets: second };
     let i = walk::passed(named, first, second, key);
-    out1.copy_from_slice(&judge::record(named, first, key, i));
-    out2.copy_from_slice(&judge::record(named, second, key, i));
+    out1.copy_from_slice(&judge::record_below(named, first, key, i));
+    out2.copy_from_slice(&judge::record_below(named, second, key, i));
     Ok(i as u32)
 }

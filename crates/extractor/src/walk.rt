@@ -27,8 +27,8 @@ fn agree(
     ensures { result ≡ same (root_record (label (number_of_profile profile)) x.now (down i (shown first.entry.octets.now))) (root_record (label (number_of_profile profile)) x.now (down i (shown second.entry.octets.now))) }
 {
     octets::same(
-        &judge::record(profile, first, x, i),
-        &judge::record(profile, second, x, i),
+        &judge::record_below(profile, first, x, i),
+        &judge::record_below(profile, second, x, i),
     )
 }
 

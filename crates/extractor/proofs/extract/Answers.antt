@@ -85,5 +85,5 @@ returns c =
     let room = buffers a.key.now a.digest.now a.out1.now a.out2.now sizes in
     extracted_done a.profile c.in_ok-named.named c.in_ok-named.ensures a.key.now a.digest.now a.first.now a.second.now a.out1.now a.out2.now sizes
     c.verify.ensures c.in_ok-p.p c.in_ok-p.ensures c.verify-2.ensures c.in_ok-q.q c.in_ok-q.ensures differ
-    c.passed-i.ensures.is c.«record».ensures c.record-2.ensures c.copy_from_slice.ensures.after c.copy_from_slice-2.ensures.after
+    c.passed-i.ensures.is c.record_below.ensures c.record_below-2.ensures c.copy_from_slice.ensures.after c.copy_from_slice-2.ensures.after
     (omega (arith, room)) (omega (arith, room))

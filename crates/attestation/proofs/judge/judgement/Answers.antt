@@ -15,15 +15,15 @@ returns-in-Some c =
 
 pub returns-then-not-same : goal.returns-then-not-same
 returns-then-not-same c =
-    rw c.at-then-not-same.ensures (judged_other (label (number_of_profile c.args.profile)) c.args.x.now c.args.d.now c.args.att.octets.now c.hidden.ensures c.if-hidden.false c.in_default.ensures.smallest c.«record».ensures c.label-root.ensures
+    rw c.at-then-not-same.ensures (judged_other (label (number_of_profile c.args.profile)) c.args.x.now c.args.d.now c.args.att.octets.now c.hidden.ensures c.if-hidden.false c.in_default.ensures.smallest c.record_below.ensures c.label-root.ensures
     (sym c.same.ensures ∙ c.if-not-same.true))
 
 pub returns-then-same : goal.returns-then-same
 returns-then-same c =
-    judged_present (label (number_of_profile c.args.profile)) c.args.x.now c.args.d.now c.args.att.octets.now c.hidden.ensures c.if-hidden.false c.in_default.ensures.smallest c.«record».ensures c.label-root.ensures
+    judged_present (label (number_of_profile c.args.profile)) c.args.x.now c.args.d.now c.args.att.octets.now c.hidden.ensures c.if-hidden.false c.in_default.ensures.smallest c.record_below.ensures c.label-root.ensures
     (sym c.same.ensures ∙ c.if-not-same.false) c.args.att.formed c.key.ensures (sym c.same-2.ensures ∙ c.if-same.true)
 
 pub returns-else-same : goal.returns-else-same
 returns-else-same c =
-    judged_absent (label (number_of_profile c.args.profile)) c.args.x.now c.args.d.now c.args.att.octets.now c.hidden.ensures c.if-hidden.false c.in_default.ensures.smallest c.«record».ensures c.label-root.ensures
+    judged_absent (label (number_of_profile c.args.profile)) c.args.x.now c.args.d.now c.args.att.octets.now c.hidden.ensures c.if-hidden.false c.in_default.ensures.smallest c.record_below.ensures c.label-root.ensures
     (sym c.same.ensures ∙ c.if-not-same.false) c.args.att.formed c.key.ensures (sym c.same-2.ensures ∙ c.if-same.false)
