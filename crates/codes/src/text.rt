@@ -33,7 +33,9 @@ fn next_key<'a>(
         (λ p. (fault (some before.now) text.now ≡ 0) × (p.0 ≡ code.key_of (line text.now)) × (p.1.now ≡ rest text.now))
         (λ r. (1 ≤ number_of r.reason) × (fault (some before.now) text.now ≡ number_of r.reason) × (r.place ≡ place)) }
 {
-    let (line, rest) = split_line(text).ok_or(Reason::Lines.at(place))?;
+    let Some((line, rest)) = split_line(text) else {
+        return Err(Reason::Lines.at(place));
+    };
     if !is_code(line) {
         return Err(Reason::NotACode.at(place));
     }
@@ -91,8 +93,12 @@ pub fn head(text: &[u8]) -> Result<(u32, &[u8]), Refusal>
     if 65535 < text.len() {
         return Err(Reason::Size.at(0));
     }
-    let second = text.strip_prefix(b"codes\n").ok_or(Reason::Head.at(1))?;
-    let (count, lines) = split_line(second).ok_or(Reason::Head.at(2))?;
+    let Some(second) = text.strip_prefix(b"codes\n") else {
+        return Err(Reason::Head.at(1));
+    };
+    let Some((count, lines)) = split_line(second) else {
+        return Err(Reason::Head.at(2));
+    };
     if !is_count(count) {
         return Err(Reason::Head.at(2));
     }

@@ -4,4 +4,4 @@ use Rattle.codes.proofs.TextLaws.{code_parts}
 use Rattle.codes.proofs.text.next_key.Goals as goal
 
 pub key_of-key-requires : goal.key_of-key-requires
-key_of-key-requires c = (code_parts c.in_ok-line.line.now (sym c.is_code.ensures ∙ c.if-not-is_code.false)).few
+key_of-key-requires c = (code_parts _ (sym c.is_code.ensures ∙ c.if-not-is_code.false)).few
